@@ -1,0 +1,7 @@
+// Definitions of chronicles: read from text, line by line, and closed.
+mod draft;
+pub mod item;
+pub mod loaded;
+pub mod reader;
+pub mod types;
+pub mod words;

@@ -1,0 +1,4 @@
+pub mod Order
+pub mod Rounds
+pub mod Lowering
+pub mod Turns
