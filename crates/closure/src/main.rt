@@ -41,7 +41,11 @@ fn print_row(rt: &LibcRuntime, table: &[Bound<Ticks>], i: usize, width: usize) -
     Ok(())
 }
 
-fn print_definition(rt: &LibcRuntime, definition: &Definition, table: &[Bound<Ticks>]) -> io::Result<()> {
+fn print_definition(
+    rt: &LibcRuntime,
+    definition: &Definition,
+    table: &[Bound<Ticks>],
+) -> io::Result<()> {
     let slot = definition.slot;
     let width = definition.types.len();
     println!(rt, "CHRONICLE\t{slot}\t{width}")?;

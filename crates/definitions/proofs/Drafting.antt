@@ -8,7 +8,7 @@ use native.Mathlib.Omega.{arith}
 use lib.Dec.{eqb, ltb}
 use lib.ListN.{length, getD}
 use Rattle.std.proofs.shelf.Lists.{length-push}
-use Rattle.std.proofs.shelf.Tests.{false≢true, cases-eq, and-from, lt-ltb, ne-eqb, not-from-false}
+use Rattle.std.proofs.shelf.Tests.{false≢true, cases-eq, and-from, and-parts, ltb-true, lt-ltb, ne-eqb, not-from-false}
 use Rattle.std.specs.declared.result.Result.{Result}
 use Rattle.std.specs.declared.result.Result.the-variants.{Ok, Err}
 use Rattle.text.specs.declared.fault.Fault.{Fault}
@@ -51,6 +51,7 @@ module _ {G : Type 0} (group : Ordered G) where
     where
       new : (b : Bound G) → b ≡ At x → ((c : G) → P c → group .leq x c ≡ true) → Smallest group (λ c. P c ⊎ (x ≡ c)) b
       new b e least = subst (Smallest group (λ c. P c ⊎ (x ≡ c))) (sym e) (inr refl, λ c. ⊎-elim (least c) (λ f. subst (λ y. group .leq x y ≡ true) f (group .leq-refl x)))
+
       go : (a b : Bound G) → Smallest group P a → (b ≡ a) ⊎ (b ≡ At x) → at-most group b a ≡ true → at-most group b (At x) ≡ true → Smallest group (λ c. P c ⊎ (x ≡ c)) b
       go (At y) b s (inl e) f g =
           subst (Smallest group (λ c. P c ⊎ (x ≡ c))) (sym e)
@@ -90,17 +91,18 @@ module _ {K G : Type 0} (group : Ordered G) (value : K → G) (bound : G → Boo
             let few = old .held .few in
             subst (Smallest group (Given (d .limits ++ (l ∷ [])) i j)) (ap (meant value) (sym (tight .kept (cell i j) (λ e. ne (omega arith, omega arith)))))
             (smallest-like group (Given (d .limits) i j) (Given (d .limits ++ (l ∷ [])) i j) (entry value table i j)
-              (λ c g. push-given l i j c (d .limits) (inl g))
-              (λ c g. ⊎-elim (λ h. h) (λ h. absurd (ne (h .0, h .1))) (given-push l i j c (d .limits) g))
-              (old .held .holds i j p q))
+            (λ c g. push-given l i j c (d .limits) (inl g))
+            (λ c g. ⊎-elim (λ h. h) (λ h. absurd (ne (h .0, h .1))) (given-push l i j c (d .limits) g))
+            (old .held .holds i j p q))
+
         here : from ≡ i → to ≡ j → Smallest group (Given (d .limits ++ (l ∷ [])) i j) (entry value u i j)
         here e f =
             smallest-like group (λ c. Given (d .limits) i j c ⊎ (value most ≡ c)) (Given (d .limits ++ (l ∷ [])) i j) (entry value u i j)
-              (λ c. ⊎-elim (λ g. push-given l i j c (d .limits) (inl g)) (λ g. push-given l i j c (d .limits) (inr (e, f, g))))
-              (λ c g. ⊎-elim inl (λ h. inr (h .2)) (given-push l i j c (d .limits) g))
-              (smallest-more group (Given (d .limits) i j) (value most) (entry value table i j) (entry value u i j) (old .held .holds i j p q)
-                (subst (λ y. Lesser group (entry value table i y) (At (value most)) (entry value u i y)) f
-                  (subst (λ x. Lesser group (entry value table x to) (At (value most)) (entry value u x to)) e (tight .lesser))))
+            (λ c. ⊎-elim (λ g. push-given l i j c (d .limits) (inl g)) (λ g. push-given l i j c (d .limits) (inr (e, f, g))))
+            (λ c g. ⊎-elim inl (λ h. inr (h .2)) (given-push l i j c (d .limits) g))
+            (smallest-more group (Given (d .limits) i j) (value most) (entry value table i j) (entry value u i j) (old .held .holds i j p q)
+            (subst (λ y. Lesser group (entry value table i y) (At (value most)) (entry value u i y)) f
+            (subst (λ x. Lesser group (entry value table x to) (At (value most)) (entry value u x to)) e (tight .lesser))))
 
     pub limit-added : (u : List (Bound K)) → Tightened group value from to (At most) table u → length u ≡ length table →
         Drafted group value bound (record { slot = draft .slot; types = draft .types; limits = draft .limits + 1 }) u (record { slot = d .slot; types = d .types; limits = d .limits ++ (l ∷ []) })
@@ -126,6 +128,13 @@ pub pair-passes : {G : Type 0} (d : Chronicle G) (l : Limit G) → l .from < len
 pair-passes d l p q ne =
     and-from (ltb (l .from) (length (d .types))) (ltb (l .to) (length (d .types)) && not (eqb (l .from) (l .to))) (lt-ltb (l .from) (length (d .types)) p)
     (and-from (ltb (l .to) (length (d .types))) (not (eqb (l .from) (l .to))) (lt-ltb (l .to) (length (d .types)) q) (not-from-false (eqb (l .from) (l .to)) (ne-eqb (l .from) (l .to) ne)))
+
+-- and what its test tells of it
+pub pair-inside : {G : Type 0} (d : Chronicle G) (l : Limit G) → isPair d l ≡ true → (l .from < length (d .types)) × (l .to < length (d .types))
+pair-inside d l pair =
+    let outer = and-parts (ltb (l .from) (length (d .types))) (ltb (l .to) (length (d .types)) && not (eqb (l .from) (l .to))) pair in
+    let inner = and-parts (ltb (l .to) (length (d .types))) (not (eqb (l .from) (l .to))) (outer .1) in
+    (ltb-true (l .from) (length (d .types)) (outer .0), ltb-true (l .to) (length (d .types)) (inner .0))
 
 -- nothing is read yet
 pub none-drafted : {K G : Type 0} (group : Ordered G) (value : K → G) (bound : G → Bool) (table : List (Bound K)) (types : Types) → typeNames types ≡ [] → Empty group value table →

@@ -41,4 +41,4 @@ pub item-valued : {G : Type 0} (fields : ℕ) (means : List (List ℕ) → Optio
     wordAt n (getD fs 0 []) ≡ Some w → length fs ≡ fieldsOf fields w → itemOf fields means bound n fs ≡ valued fields means bound n w fs
 item-valued fields means bound n fs w e f =
     given-some (wordAt n (getD fs 0 [])) (faultAt BadLine n 0) (worded fields means bound n fs) w e
-      ∙ cond-true (eqb (length fs) (fieldsOf fields w)) (valued fields means bound n w fs) (Err (faultAt BadLine n 0)) (eq-eqb (length fs) (fieldsOf fields w) f)
+    ∙ cond-true (eqb (length fs) (fieldsOf fields w)) (valued fields means bound n w fs) (Err (faultAt BadLine n 0)) (eq-eqb (length fs) (fieldsOf fields w) f)

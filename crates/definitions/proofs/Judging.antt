@@ -65,7 +65,7 @@ module _ {G : Type 0} (fields : ℕ) (means : List (List ℕ) → Option G) (bou
     pub judged-is : judged fields means bound loaded n d ps ≡ then (accepted loaded n d said) (λ made. Ok (record { says = said; makes = made }))
     judged-is =
         ap (λ r. then r (λ l. then (itemOf fields means bound n (split 9 l)) (λ s. then (accepted loaded n d s) (λ made. Ok (record { says = s; makes = made }))))) first
-          ∙ ap (λ r. then r (λ s. then (accepted loaded n d s) (λ made. Ok (record { says = s; makes = made })))) says
+        ∙ ap (λ r. then r (λ s. then (accepted loaded n d s) (λ made. Ok (record { says = s; makes = made })))) says
 
     pub step-refused : (end : ℕ) (P Q : Chronicle G → Type 0) (e : Fault) → Agrees {A = Unit {0}} (accepted loaded n d said) P (Err e) → Steps (judged fields means bound loaded n d ps) end Q (Err e)
     step-refused end P Q e agrees = subst (λ j. Steps j end Q (Err e)) (sym judged-is) (go (accepted loaded n d said) agrees)

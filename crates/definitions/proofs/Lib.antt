@@ -5,3 +5,4 @@ pub mod Lining
 pub mod Judging
 pub mod Progress
 pub mod Transfer
+pub mod Grammar

@@ -21,4 +21,4 @@ module _ (n used : ℕ) (text l : List ℕ) (first : lineOf n (split 10 (drop us
   pub line-rest : split 10 (drop used text) ≡ l ∷ split 10 (drop (used + length l + 1) text)
   line-rest =
       line-after n (drop used text) l first .parts
-        ∙ ap (λ xs. l ∷ split 10 xs) (drop-drop (length l + 1) used text ∙ ap (λ k. drop k text) (let e : used + (length l + 1) ≡ used + length l + 1 = omega arith in e))
+      ∙ ap (λ xs. l ∷ split 10 xs) (drop-drop (length l + 1) used text ∙ ap (λ k. drop k text) (let e : used + (length l + 1) ≡ used + length l + 1 = omega arith in e))

@@ -64,8 +64,8 @@ module _ {G : Type 0} (fields : ℕ) (means : List (List ℕ) → Option G) (bou
           let l = line .0 in
           let rest = line-rest n used text l (line .1) in
           ap (From n used d) rest ∙ read-cons n used d l (split 10 (drop (used + length l + 1) text))
-            ∙ ap (λ j. After n (used + length l + 1) j (λ d′. From (n + 1) (used + length l + 1) d′ (split 10 (drop (used + length l + 1) text)))) (ap (judged fields means bound loaded n d) (sym rest) ∙ sound)
-            ∙ ap (λ k. After n k (Ok s) (λ d′. From (n + 1) k d′ (split 10 (drop k text)))) (line-ends n used text l (line .1))
+          ∙ ap (λ j. After n (used + length l + 1) j (λ d′. From (n + 1) (used + length l + 1) d′ (split 10 (drop (used + length l + 1) text)))) (ap (judged fields means bound loaded n d) (sym rest) ∙ sound)
+          ∙ ap (λ k. After n k (Ok s) (λ d′. From (n + 1) k d′ (split 10 (drop k text)))) (line-ends n used text l (line .1))
 
       pub read-done : isClosing (s .says) ≡ true → From n used d (split 10 (drop used text)) ≡ Ok (record { chronicle = s .makes; lines = n; used = lineEnd text used })
       read-done closes = step-on ∙ cond-true (isClosing (s .says)) _ _ closes

@@ -51,8 +51,10 @@ module _ {K G : Type 0} (group : Ordered G) (value : K → G) (bound : G → Boo
     where
       few : n ≤ 8
       few = held .few
+
       within : (i < n) × (k < n)
       within = held .between i k c g
+
       go : {j : ℕ} (b : Bound G) → entry value table i k ≡ b → Smallest group (Given (d .limits) i k) b → (t : G) × Chain group (Tabled value n table) k j t × (group .leq t s ≡ true) →
           (t : G) × Chain group (Tabled value n table) i j t × (group .leq t (group .plus c s) ≡ true)
       go (At x) e least on = (group .plus x (on .0), step (within .0, within .1, e) (on .1), plus-mono group x c (on .0) s (least .1 c g) (on .2))
@@ -76,6 +78,7 @@ module _ {K G : Type 0} (group : Ordered G) (value : K → G) (bound : G → Boo
     where
       few : n ≤ 8
       few = held .few
+
       go : (b : Bound G) → Smallest group (Given (d .limits) i j) b → admits bound b ≡ true
       go (At x) least = held .admitted i j x (least .0)
       go NoBound least = refl
@@ -93,15 +96,21 @@ module _ {K G : Type 0} (group : Ordered G) (value : K → G) (bound : G → Boo
     where
       held : Held group value bound t (reading .chronicle)
       held = parsed .1
+
       same : k ≡ length (reading .chronicle .types)
       same = count ∙ ap length (parsed .0 .types)
+
       in-range : InRange (length (reading .chronicle .types)) t
       in-range = (some reading refl, held .few, held .long)
+
       go : (r : Result (Unit {0}) Unclosed) → Closes value group bound (length (reading .chronicle .types)) t u r → Loads group value (Ok reading) u (answer r)
-      go (Ok done) h = (parsed .0, record {
-        consistent = λ c. h .2 (contradictory-tabled group value bound t (reading .chronicle) held c);
-        closed = λ i j p q. closed-given group value bound t (reading .chronicle) held i j (entry value u i j) (h .3 i j p q);
-      })
+      go (Ok done) h = (
+        parsed .0,
+        record {
+          consistent = λ c. h .2 (contradictory-tabled group value bound t (reading .chronicle) held c);
+          closed = λ i j p q. closed-given group value bound t (reading .chronicle) held i j (entry value u i j) (h .3 i j p q);
+        },
+      )
       go (Err OutOfRange) h = absurd (h .0 in-range)
       go (Err NotAdmitted) h = absurd (h .1 (all-admitted group value bound t (reading .chronicle) held))
       go (Err Contradiction) h = (contradictory-given group value bound t (reading .chronicle) held (h .2), ap (λ l. faultAt Contradicts l 0) (parsed .0 .lines))
@@ -119,3 +128,10 @@ module _ {K G : Type 0} (group : Ordered G) (value : K → G) (bound : G → Boo
       When b (Parses a P (Ok x)) (TooShort t0 t1 (Ok x)) → (Parses a P (Ok x) → Loads group value a u r) → When b (Loads group value a u r) (TooShort t0 u r)
   when-read a P t0 t1 true r h f = f h
   when-read a P t0 t1 false r h f = let e = h .0 in let z : _≡_ {A = ℕ} 0 1 = cc in absurd (omega arith)
+
+-- nothing was read
+pub when-refused : {K G : Type 0} (group : Ordered G) (value : K → G) (a : Result (Reading G) Fault) (P : Chronicle G → Type 0) (t0 t1 : List (Bound K)) (b : Bool) (e : Fault) →
+    When b (Parses a P (Err e)) (TooShort t0 t1 (Err e)) → When b (Loads group value a t1 (Err e)) (TooShort t0 t1 (Err e))
+when-refused group value (Ok reading) P t0 t1 true e h = absurd h
+when-refused group value (Err f) P t0 t1 true e h = h
+when-refused group value a P t0 t1 false e h = h

@@ -31,6 +31,7 @@ names-get t i d h = subst (λ o. Cases o (length (typeNames t) ≤ i) (λ n. (i 
   where
     same : getD (t .names) i d ≡ getD (t .names) i None
     same = getD-default (t .names) i d None (omega (arith, t .fits, t .sized))
+
     go : (o : Option Name) → getD (t .names) i None ≡ o → Cases o (length (typeNames t) ≤ i) (λ n. (i < length (typeNames t)) × (spelled n ≡ getD (typeNames t) i []))
     go None e = absurd (both-ways _ (ap isSome e) (t .filled i h))
     go (Some n) e = (omega (arith, names-length t), sym (names-at t i h ∙ ap letters e))

@@ -6,3 +6,4 @@ pub mod Reading
 pub mod Drafts
 pub mod Steps
 pub mod Loading
+pub mod Grammar

@@ -59,8 +59,8 @@ module _ {G : Type 0} (fields : ℕ) (means : List (List ℕ) → Option G) (bou
   valued n Var fs = cond (isName (getD fs 1 [])) (Ok (variable (getD fs 1 []))) (Err (faultAt BadField n 2))
   valued n Bound fs =
       given (small (getD fs 1 [])) (faultAt BadField n 2) (λ i.
-        given (small (getD fs 2 [])) (faultAt BadField n 3) (λ j.
-          given (admitted (means (drop 3 fs))) (faultAt BadField n 4) (λ c. Ok (limit (limitOf i j c)))))
+      given (small (getD fs 2 [])) (faultAt BadField n 3) (λ j.
+      given (admitted (means (drop 3 fs))) (faultAt BadField n 4) (λ c. Ok (limit (limitOf i j c)))))
   valued n End fs = Ok closing
 
   -- the number of fields, then the fields

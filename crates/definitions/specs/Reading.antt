@@ -78,8 +78,8 @@ module _ {G : Type 0} (fields : ℕ) (means : List (List ℕ) → Option G) (bou
   abbrev pub judged : ℕ → Chronicle G → List (List ℕ) → Result (Sound G) Fault
   judged n d ps =
       then (lineOf n ps) (λ line.
-        then (itemOf fields means bound n (split 9 line)) (λ said.
-          then (accepted loaded n d said) (λ made. Ok (record { says = said; makes = made }))))
+      then (itemOf fields means bound n (split 9 line)) (λ said.
+      then (accepted loaded n d said) (λ made. Ok (record { says = said; makes = made }))))
 
   -- after line n, which ends at byte `used`: the definition is read, or reading goes on
   abbrev pub after : ℕ → ℕ → Result (Sound G) Fault → (Chronicle G → Result (Reading G) Fault) → Result (Reading G) Fault

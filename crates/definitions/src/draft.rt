@@ -1,6 +1,7 @@
 // A chronicle that is being read: what each line adds to it, or the fault of slot, count or pair.
 ghost use mathlib.Core.Path.{_≡_};
-ghost use mathlib.Core.Bool.{true};
+ghost use mathlib.Core.Bool.{true, not, _&&_};
+ghost use lib.Dec.{eqb, ltb};
 ghost use Rattle.definitions.specs.Chronicles.{Chronicle};
 ghost use Rattle.definitions.specs.Reading.{withSlot, withType, withLimit, ended, accepted};
 ghost use Rattle.network.specs.Tables.{Beyond};
@@ -30,7 +31,13 @@ pub struct Draft {
     pub limits: usize,
 }
 
-fn open<K: Kind>(draft: &mut Draft, table: &[Bound<K>], loaded: &Loaded, slot: usize, line: usize) -> Result<(), Fault>
+fn open<K: Kind>(
+    draft: &mut Draft,
+    table: &[Bound<K>],
+    loaded: &Loaded,
+    slot: usize,
+    line: usize,
+) -> Result<(), Fault>
     ensures { λ r. ⌜ ((d : Chronicle G) → Drafted group value bound (now (draft .entry)) (now (table .entry)) d → Agrees (withSlot (now (loaded .entry)) line d slot) (Drafted group value bound (now (draft .exit)) (now (table .entry))) r) ⌝ }
 {
     if is_loaded(loaded, slot) {
@@ -40,7 +47,12 @@ fn open<K: Kind>(draft: &mut Draft, table: &[Bound<K>], loaded: &Loaded, slot: u
     Ok(())
 }
 
-fn add_variable<K: Kind>(draft: &mut Draft, table: &[Bound<K>], name: Name, line: usize) -> Result<(), Fault>
+fn add_variable<K: Kind>(
+    draft: &mut Draft,
+    table: &[Bound<K>],
+    name: Name,
+    line: usize,
+) -> Result<(), Fault>
     ensures { λ r. ⌜ ((d : Chronicle G) → Drafted group value bound (now (draft .entry)) (now (table .entry)) d → Agrees (withType line d (spelled name)) (Drafted group value bound (now (draft .exit)) (now (table .entry))) r) ⌝ }
 {
     if !draft.types.push(name) {
@@ -49,17 +61,35 @@ fn add_variable<K: Kind>(draft: &mut Draft, table: &[Bound<K>], name: Name, line
     Ok(())
 }
 
+fn has_room(limits: usize) -> bool
+    ensures { λ r. ⌜ r ≡ ltb limits 64 ⌝ }
+{
+    limits < MOST_LIMITS
+}
+
+// Two different ones of so many variables.
+fn is_pair(from: usize, to: usize, variables: usize) -> bool
+    ensures { λ r. ⌜ r ≡ (ltb from variables && (ltb to variables && not (eqb from to))) ⌝ }
+{
+    from < variables && to < variables && from != to
+}
+
 // The bound goes into the table, where it counts if it is the smallest between its variables.
-fn add_limit<K: Kind>(draft: &mut Draft, table: &mut [Bound<K>], limit: &Limit<K>, line: usize) -> Result<(), Fault>
+fn add_limit<K: Kind>(
+    draft: &mut Draft,
+    table: &mut [Bound<K>],
+    limit: &Limit<K>,
+    line: usize,
+) -> Result<(), Fault>
     ensures kept { λ _. ⌜ Beyond (now (table .entry)) (now (table .exit)) ⌝ }
     ensures adds { λ r. ⌜ ((d : Chronicle G) → Drafted group value bound (now (draft .entry)) (now (table .entry)) d → bound (value (now (limit .entry) .most)) ≡ true → Agrees (withLimit line d (limitBy value (now (limit .entry)))) (Drafted group value bound (now (draft .exit)) (now (table .exit))) r) ⌝ }
 {
     let place = Place { line, field: 0 };
-    if draft.limits >= MOST_LIMITS {
+    if !has_room(draft.limits) {
         return Err(place.fault(Cause::TooMany));
     }
     let variables = draft.types.len();
-    if limit.from >= variables || limit.to >= variables || limit.from == limit.to {
+    if !is_pair(limit.from, limit.to, variables) {
         return Err(place.fault(Cause::BadPair));
     }
     tighten(table, limit.from, limit.to, Bound::At(limit.most));
@@ -77,7 +107,13 @@ fn end<K: Kind>(draft: &Draft, table: &[Bound<K>], line: usize) -> Result<(), Fa
 }
 
 // What a line adds.
-pub fn accept<K: Kind>(draft: &mut Draft, table: &mut [Bound<K>], loaded: &Loaded, item: &Item<K>, line: usize) -> Result<(), Fault>
+pub fn accept<K: Kind>(
+    draft: &mut Draft,
+    table: &mut [Bound<K>],
+    loaded: &Loaded,
+    item: &Item<K>,
+    line: usize,
+) -> Result<(), Fault>
     ensures kept { λ _. ⌜ Beyond (now (table .entry)) (now (table .exit)) ⌝ }
     ensures adds { λ r. ⌜ ((d : Chronicle G) → Drafted group value bound (now (draft .entry)) (now (table .entry)) d → Admits bound (saidBy value (now (item .entry))) → Agrees (accepted (now (loaded .entry)) line d (saidBy value (now (item .entry)))) (Drafted group value bound (now (draft .exit)) (now (table .exit))) r) ⌝ }
 {

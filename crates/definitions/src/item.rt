@@ -54,14 +54,27 @@ fn read_small(line: &[u8], k: usize, place: Place) -> Result<usize, Fault>
 fn read_opening<K: Kind>(line: &[u8], number: usize) -> Result<Item<K>, Fault>
     ensures { λ r. ⌜ Says value (valued fields means bound number Chronicle (split 9 (now (line .entry)))) r ⌝ }
 {
-    let slot = read_small(line, 1, Place { line: number, field: 2 })?;
+    let slot = read_small(
+        line,
+        1,
+        Place {
+            line: number,
+            field: 2,
+        },
+    )?;
     Ok(Item::Opening(slot))
 }
 
 fn read_variable<K: Kind>(line: &[u8], number: usize) -> Result<Item<K>, Fault>
     ensures { λ r. ⌜ Says value (valued fields means bound number Var (split 9 (now (line .entry)))) r ⌝ }
 {
-    let name = Name::read(part(line, TAB, 1), Place { line: number, field: 2 })?;
+    let name = Name::read(
+        part(line, TAB, 1),
+        Place {
+            line: number,
+            field: 2,
+        },
+    )?;
     Ok(Item::Variable(name))
 }
 
@@ -79,17 +92,44 @@ fn read_most<K: Kind>(line: &[u8], place: Place) -> Result<K, Fault>
 fn read_limit<K: Kind>(line: &[u8], number: usize) -> Result<Item<K>, Fault>
     ensures { λ r. ⌜ (3 < length (split 9 (now (line .entry))) → Says value (valued fields means bound number Bound (split 9 (now (line .entry)))) r) ⌝ }
 {
-    let i = read_small(line, 1, Place { line: number, field: 2 })?;
-    let j = read_small(line, 2, Place { line: number, field: 3 })?;
-    let most = read_most(line, Place { line: number, field: 4 })?;
-    Ok(Item::Bounding(Limit { from: i - 1, to: j - 1, most }))
+    let i = read_small(
+        line,
+        1,
+        Place {
+            line: number,
+            field: 2,
+        },
+    )?;
+    let j = read_small(
+        line,
+        2,
+        Place {
+            line: number,
+            field: 3,
+        },
+    )?;
+    let most = read_most(
+        line,
+        Place {
+            line: number,
+            field: 4,
+        },
+    )?;
+    Ok(Item::Bounding(Limit {
+        from: i - 1,
+        to: j - 1,
+        most,
+    }))
 }
 
 // Line `number` of a definition: its word, the number of its fields, then the fields from the left.
 pub fn read_item<K: Kind>(line: &[u8], number: usize) -> Result<Item<K>, Fault>
     ensures { λ r. ⌜ Says value (itemOf fields means bound number (split 9 (now (line .entry)))) r ⌝ }
 {
-    let place = Place { line: number, field: 0 };
+    let place = Place {
+        line: number,
+        field: 0,
+    };
     let Some(word) = word_at(number, part(line, TAB, 0)) else {
         return Err(place.fault(Cause::BadLine));
     };

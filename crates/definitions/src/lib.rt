@@ -3,5 +3,7 @@ mod draft;
 pub mod item;
 pub mod loaded;
 pub mod reader;
+#[cfg(test)]
+mod tests;
 pub mod types;
 pub mod words;

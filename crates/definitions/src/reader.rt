@@ -6,11 +6,14 @@ ghost use lib.ListN.{length, drop};
 ghost use Rattle.std.specs.Orderings.{When};
 ghost use Rattle.std.specs.Vec.{made};
 ghost use Rattle.network.specs.Tables.{Beyond};
+ghost use Rattle.text.specs.declared.fault.Cause.the-variants.{Contradictory};
+ghost use Rattle.text.specs.Faults.{faultAt};
 ghost use Rattle.text.specs.Split.{split};
 ghost use Rattle.definitions.specs.Chronicles.{Chronicle};
 ghost use Rattle.definitions.specs.Reading.{isClosing, judged, readFrom, blank, readingOf};
 ghost use Rattle.definitions.specs.Items.{saidBy};
 ghost use Rattle.definitions.specs.Drafts.{Empty, Held, Drafted};
+ghost use Rattle.definitions.specs.Grammar.{ReadAsMade};
 ghost use Rattle.definitions.specs.Loading.{TooShort, Loads};
 ghost use Rattle.definitions.specs.Steps.{lineEnd, Steps, Parses};
 use crate::draft::Draft;
@@ -52,7 +55,14 @@ fn is_closing<K: Kind>(item: &Item<K>) -> bool
 }
 
 // Line `number`, which begins at byte `used`.
-fn read_line<K: Kind>(text: &[u8], used: usize, number: usize, loaded: &Loaded, draft: &mut Draft, table: &mut [Bound<K>]) -> Result<Step, Fault>
+fn read_line<K: Kind>(
+    text: &[u8],
+    used: usize,
+    number: usize,
+    loaded: &Loaded,
+    draft: &mut Draft,
+    table: &mut [Bound<K>],
+) -> Result<Step, Fault>
     ensures step { λ r. ⌜ ((d : Chronicle G) → Drafted group value bound (now (draft .entry)) (now (table .entry)) d → Steps (judged fields means bound (now (loaded .entry)) number d (split 10 (drop used (now (text .entry))))) (lineEnd (now (text .entry)) used) (Drafted group value bound (now (draft .exit)) (now (table .exit))) r) ⌝ }
     ensures kept { λ _. ⌜ Beyond (now (table .entry)) (now (table .exit)) ⌝ }
     ensures on { λ r. ⌜ made r (λ s. (used < s .used) × (s .used ≤ length (now (text .entry)))) ⌝ }
@@ -60,22 +70,39 @@ fn read_line<K: Kind>(text: &[u8], used: usize, number: usize, loaded: &Loaded, 
     let line = line_at(text, used, number)?;
     let item = read_item::<K>(line, number)?;
     accept(draft, table, loaded, &item, number)?;
-    Ok(Step { used: used + line.len() + 1, closing: is_closing(&item) })
+    Ok(Step {
+        used: used + line.len() + 1,
+        closing: is_closing(&item),
+    })
 }
 
 // The lines of a definition, from the first on; the table is empty at first and has its bounds at last.
-fn read_lines<K: Kind>(text: &[u8], loaded: &Loaded, table: &mut [Bound<K>]) -> Result<Definition, Fault>
+fn read_lines<K: Kind>(
+    text: &[u8],
+    loaded: &Loaded,
+    table: &mut [Bound<K>],
+) -> Result<Definition, Fault>
     ensures kept { λ _. ⌜ Beyond (now (table .entry)) (now (table .exit)) ⌝ }
     ensures within { λ r. ⌜ made r (λ x. (0 < x .used) × (x .used ≤ length (now (text .entry)))) ⌝ }
     ensures parses { λ r. ⌜ (Empty group value (now (table .entry)) → Parses (readFrom fields means bound (now (loaded .entry)) 1 0 blank (split 10 (now (text .entry)))) (Held group value bound (now (table .exit))) r) ⌝ }
 {
-    let mut draft = Draft { slot: 0, types: Types::new(), limits: 0 };
+    let mut draft = Draft {
+        slot: 0,
+        types: Types::new(),
+        limits: 0,
+    };
     let mut used = 0;
     let mut number = 1;
     'lines: loop {
         let step = read_line(text, used, number, loaded, &mut draft, table)?;
         if step.closing {
-            return Ok(Definition { slot: draft.slot, types: draft.types, limits: draft.limits, lines: number, used: step.used });
+            return Ok(Definition {
+                slot: draft.slot,
+                types: draft.types,
+                limits: draft.limits,
+                lines: number,
+                used: step.used,
+            });
         }
         used = step.used;
         number += 1;
@@ -84,7 +111,11 @@ fn read_lines<K: Kind>(text: &[u8], loaded: &Loaded, table: &mut [Bound<K>]) -> 
 
 // Reads one definition from the front of a text. The table then has the smallest bound given between each two variables;
 // where the text is refused it is free memory. Beyond 64 entries the memory stays as it is.
-pub fn parse<K: Kind>(text: &[u8], loaded: &Loaded, table: &mut [Bound<K>]) -> Result<Definition, Fault>
+pub fn parse<K: Kind>(
+    text: &[u8],
+    loaded: &Loaded,
+    table: &mut [Bound<K>],
+) -> Result<Definition, Fault>
     ensures kept { λ _. ⌜ Beyond (now (table .entry)) (now (table .exit)) ⌝ }
     ensures within { λ r. ⌜ made r (λ x. (0 < x .used) × (x .used ≤ length (now (text .entry)))) ⌝ }
     ensures parses { λ r. ⌜ When (leb 64 (length (now (table .entry)))) (Parses (readingOf fields means bound (now (loaded .entry)) (now (text .entry))) (Held group value bound (now (table .exit))) r) (TooShort (now (table .entry)) (now (table .exit)) r) ⌝ }
@@ -95,15 +126,30 @@ pub fn parse<K: Kind>(text: &[u8], loaded: &Loaded, table: &mut [Bound<K>]) -> R
     read_lines(text, loaded, table)
 }
 
+// Where the bounds of a definition contradict, its last line is at fault.
+fn contradiction(definition: &Definition) -> Fault
+    ensures { λ r. ⌜ r ≡ faultAt Contradictory (now (definition .entry) .lines) 0 ⌝ }
+{
+    Place {
+        line: definition.lines,
+        field: 0,
+    }.fault(Cause::Contradictory)
+}
+
 // Reads one definition from the front of a text and closes its bounds in the table; the last line is at fault where they contradict.
-pub fn read<K: Kind>(text: &[u8], loaded: &Loaded, table: &mut [Bound<K>]) -> Result<Definition, Fault>
+pub fn read<K: Kind>(
+    text: &[u8],
+    loaded: &Loaded,
+    table: &mut [Bound<K>],
+) -> Result<Definition, Fault>
     ensures kept { λ _. ⌜ Beyond (now (table .entry)) (now (table .exit)) ⌝ }
     ensures within { λ r. ⌜ made r (λ x. (0 < x .used) × (x .used ≤ length (now (text .entry)))) ⌝ }
+    ensures as_made { λ _. ⌜ ReadAsMade fields means bound (now (loaded .entry)) (now (text .entry)) ⌝ }
     ensures loads { λ r. ⌜ When (leb 64 (length (now (table .entry)))) (Loads group value (readingOf fields means bound (now (loaded .entry)) (now (text .entry))) (now (table .exit)) r) (TooShort (now (table .entry)) (now (table .exit)) r) ⌝ }
 {
     let definition = parse(text, loaded, table)?;
     if close(table, definition.types.len()).is_err() {
-        return Err(Place { line: definition.lines, field: 0 }.fault(Cause::Contradictory));
+        return Err(contradiction(&definition));
     }
     Ok(definition)
 }

@@ -25,7 +25,11 @@ pub fn word_at(number: usize, field: &[u8]) -> Option<Word>
     ensures { λ r. ⌜ r ≡ wordAt number (now (field .entry)) ⌝ }
 {
     if number == 1 {
-        return if spells(field, b"chronicle") { Some(Word::Chronicle) } else { None };
+        return if spells(field, b"chronicle") {
+            Some(Word::Chronicle)
+        } else {
+            None
+        };
     }
     if spells(field, b"var") {
         return Some(Word::Var);
@@ -33,7 +37,11 @@ pub fn word_at(number: usize, field: &[u8]) -> Option<Word>
     if spells(field, b"bound") {
         return Some(Word::Bound);
     }
-    if spells(field, b"end") { Some(Word::End) } else { None }
+    if spells(field, b"end") {
+        Some(Word::End)
+    } else {
+        None
+    }
 }
 
 // Whether a line of that word has so many fields.

@@ -8,6 +8,9 @@ use std::fs::File;
 use std::io;
 use std::io::Read;
 
+#[cfg(test)]
+mod tests;
+
 pub const MOST_BYTES: usize = 65_536;
 
 // What a file holds, unless it is too long.

@@ -19,7 +19,7 @@ module _ (was bytes : List ℕ) (i : ℕ) (h : i + length bytes ≤ length was) 
   pub pasted-front : take (i + length bytes) (pasted was i bytes) ≡ take i was ++ bytes
   pasted-front =
       ap (take (i + length bytes)) (pasted-is ∙ sym (append-assoc (take i was) bytes (drop (i + length bytes) was)))
-        ∙ take-at (take i was ++ bytes) (drop (i + length bytes) was) (i + length bytes) (simp (length-append, length-take) (omega arith))
+      ∙ take-at (take i was ++ bytes) (drop (i + length bytes) was) (i + length bytes) (simp (length-append, length-take) (omega arith))
 
   pub length-pasted : length (pasted was i bytes) ≡ length was
   length-pasted = ap length pasted-is ∙ simp (length-append, length-take, length-drop) (omega arith)
@@ -71,4 +71,4 @@ module _ (a b : List ℕ) (short-a : length a ≤ 20) (short-b : length b ≤ 20
         pub both-text : take (length (a ++ (9 ∷ b))) b3 ≡ a ++ (9 ∷ b)
         both-text =
             ap (λ n. take n b3) whole-length ∙ ap (take (start + length b)) three ∙ pasted-front b2 b start room2
-              ∙ ap (λ l. l ++ b) front2 ∙ append-assoc a (9 ∷ []) b
+            ∙ ap (λ l. l ++ b) front2 ∙ append-assoc a (9 ∷ []) b

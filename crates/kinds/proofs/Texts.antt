@@ -26,7 +26,7 @@ use Rattle.std.proofs.shelf.Signed.{ints}
 pub long-signed : (z : ℤ) → mag z < 2 ^ 63 → long (signed z) ≡ Some z
 long-signed z h =
     ap (within (negsuc 9223372036854775807) (pos 9223372036854775807)) (whole-signed z h)
-      ∙ cond-true _ _ _ (and-from _ _ (at-most (negsuc 9223372036854775807) z (omega (arith, ints))) (at-most z (pos 9223372036854775807) (omega (arith, ints))))
+    ∙ cond-true _ _ _ (and-from _ _ (at-most (negsuc 9223372036854775807) z (omega (arith, ints))) (at-most z (pos 9223372036854775807) (omega (arith, ints))))
 
 decimal-digits : (n : ℕ) → n < 2 ^ 64 → allDigits (decimal n) ≡ true
 decimal-digits = digits-decimal (numerals-by-fold (λ ds. allDigits ds ≡ true) (search needs) readOn (search needs))
@@ -49,7 +49,7 @@ tick-back z h = ap tick-means (split-whole 9 (signed z) (signed-clear z h)) ∙ 
 pub pair-back : (t p : ℤ) → mag t < 2 ^ 63 → mag p < 2 ^ 63 → pair-means (split 9 (pair-text t p)) ≡ Some (pair t p)
 pair-back t p h k =
     ap pair-means (split-before 9 (signed t) (signed p) (signed-clear t h) ∙ ap (λ ps. signed t ∷ ps) (split-whole 9 (signed p) (signed-clear p k)))
-      ∙ ap (λ a. both a (long (signed p))) (long-signed t h) ∙ ap (both (Some t)) (long-signed p k)
+    ∙ ap (λ a. both a (long (signed p))) (long-signed t h) ∙ ap (both (Some t)) (long-signed p k)
 
 pub signed-short : (z : ℤ) → mag z < 2 ^ 63 → length (signed z) ≤ 20
 signed-short z h = length-signed-le 19 z (omega arith) h

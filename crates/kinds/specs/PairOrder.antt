@@ -71,11 +71,11 @@ pair-total x y =
     by-ltZ (x .tick) (y .tick)
     (λ l. inl (before-leq x y (inl l)))
     (λ back. by-ltZ (y .tick) (x .tick)
-      (λ l. inr (before-leq y x (inl l)))
-      (λ forth. let same : x .tick ≡ y .tick = omega (arith, ints) in
-        by-ltZ (x .place) (y .place)
-        (λ l. inl (before-leq x y (inr (same, omega (arith, ints)))))
-        (λ l. inr (before-leq y x (inr (sym same, l))))))
+    (λ l. inr (before-leq y x (inl l)))
+    (λ forth. let same : x .tick ≡ y .tick = omega (arith, ints) in
+    by-ltZ (x .place) (y .place)
+    (λ l. inl (before-leq x y (inr (same, omega (arith, ints)))))
+    (λ l. inr (before-leq y x (inr (sym same, l))))))
 
 pub pair-shift : (x y z : Pair) → pair-leq x y ≡ true → pair-leq (pair-plus x z) (pair-plus y z) ≡ true
 pair-shift x y z h = before-leq (pair-plus x z) (pair-plus y z) (go (leq-before x y h))

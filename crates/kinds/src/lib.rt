@@ -3,4 +3,6 @@ pub mod bound;
 mod fields;
 pub mod kind;
 pub mod pairs;
+#[cfg(test)]
+mod tests;
 pub mod ticks;

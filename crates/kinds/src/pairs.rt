@@ -1,17 +1,15 @@
 // Pairs: a tick and a place among the events of that tick, compared by tick, then place.
 ghost use Rattle.kinds.specs.PairOrder.{Pair, pair, pair-group, pair-weight, pair-bound, pair-stamp, pair-weighed};
 ghost use Rattle.kinds.specs.Fields.{pair-means, pair-takes, pair-text};
-use crate::fields::WIDEST_PAIR;
-use crate::fields::put_pair;
-use crate::fields::read_long;
+use crate::fields::read_field;
+use crate::fields::write_pair;
 use crate::kind::Kind;
-use text::fault::Fault;
-use text::fault::Place;
-use text::writing::put;
-use text::parts;
-use text::fault::Cause;
 use crate::ticks::BOUND_LIMIT;
 use crate::ticks::STAMP_LIMIT;
+use text::fault::Cause;
+use text::fault::Fault;
+use text::fault::Place;
+use text::parts;
 
 #[derive(Clone, Copy)]
 pub struct Pairs {
@@ -79,14 +77,12 @@ pub impl Kind for Pairs as PairsKind {
         if parts::count(text, parts::TAB) != 2 {
             return Err(place.fault(Cause::BadField));
         }
-        let tick = read_long(parts::part(text, parts::TAB, 0), place)?;
-        let among = read_long(parts::part(text, parts::TAB, 1), place)?;
+        let tick = read_field(text, 0, place)?;
+        let among = read_field(text, 1, place)?;
         Ok(Pairs { tick, place: among })
     }
 
     fn write(&self, out: &mut [u8], start: usize) -> Option<usize> {
-        let mut text = [0u8; WIDEST_PAIR];
-        let end = put_pair(&mut text, self.tick, self.place)?;
-        put(out, start, &text[0..end])
+        write_pair(out, start, self.tick, self.place)
     }
 }

@@ -3,13 +3,13 @@ ghost use lib.IntN.{ℤ};
 ghost use Rattle.kinds.specs.TickOrder.{tick-group, tick-weight, tick-bound, tick-stamp, tick-weighed};
 ghost use Rattle.std.specs.Written.{signed};
 ghost use Rattle.kinds.specs.Fields.{tick-means, tick-takes};
-use crate::fields::read_long;
+use crate::fields::read_field;
+use crate::fields::write_long;
 use crate::kind::Kind;
+use text::fault::Cause;
 use text::fault::Fault;
 use text::fault::Place;
-use text::writing::put_number;
 use text::parts;
-use text::fault::Cause;
 
 #[derive(Clone, Copy)]
 pub struct Ticks {
@@ -18,6 +18,7 @@ pub struct Ticks {
 
 // The limits of an admitted bound, either way, and of an admitted stamp.
 pub const BOUND_LIMIT: i64 = 4_294_967_296;
+
 pub const STAMP_LIMIT: i64 = 1_099_511_627_776;
 
 pub impl Kind for Ticks as TicksKind {
@@ -74,11 +75,11 @@ pub impl Kind for Ticks as TicksKind {
         if parts::count(text, parts::TAB) != 1 {
             return Err(place.fault(Cause::BadField));
         }
-        let count = read_long(parts::part(text, parts::TAB, 0), place)?;
+        let count = read_field(text, 0, place)?;
         Ok(Ticks { count })
     }
 
     fn write(&self, out: &mut [u8], start: usize) -> Option<usize> {
-        put_number(out, start, self.count)
+        write_long(out, start, self.count)
     }
 }

@@ -20,7 +20,7 @@ module _ {K G : Type 0} (O : Ordered G) (value : K → G) (i j : ℕ) (i<8 : i <
   pub lowered : (t : List (Bound K)) → 64 ≤ length t → at-most O (entry value t i j) (meant value other) ≡ false → Tightened O value i j other t (set t (cell i j) other)
   lowered t long h = record {
     lesser = subst (Lesser O (entry value t i j) (meant value other)) (ap (meant value) (sym (getD-set-same t (cell i j) other NoBound (omega arith)))) (lesser-second O h);
-    kept = λ c ne. getD-set-other t (cell i j) c other NoBound ne
+    kept = λ c ne. getD-set-other t (cell i j) c other NoBound ne;
   }
 
   pub left : (t : List (Bound K)) → at-most O (entry value t i j) (meant value other) ≡ true → Tightened O value i j other t t
@@ -44,7 +44,7 @@ module _ {K G : Type 0} (O : Ordered G) (value : K → G) (weight : G → ℕ) (
           (λ l. sofar .lowered q l light)
           (λ l. let e : q ≡ j = omega arith in absurd (heavy (subst (λ v. weighs weight (entry value t i k) + weighs weight (entry value t k v) ≤ 16777216) e light)))
           (cases-lt q j);
-      kept = λ c ne. sofar .kept c (λ q h. ne q (omega arith))
+      kept = λ c ne. sofar .kept c (λ q h. ne q (omega arith));
     }
 
     pub relaxed-more : (way : Bound K) (v : List (Bound K)) → Tightened O value i j way u v → meant value way ≡ join O (entry value t i k) (entry value t k j) → Relaxed O value weight i k (j + 1) t v
@@ -52,11 +52,11 @@ module _ {K G : Type 0} (O : Ordered G) (value : K → G) (weight : G → ℕ) (
       lowered = λ q h light. ⊎-elim
           (λ l. subst (Lesser O (entry value t i q) (join O (entry value t i k) (entry value t k q))) (ap (meant value) (sym (low .kept (cell i q) (λ e. omega arith)))) (sofar .lowered q l light))
           (λ l. let e : q ≡ j = omega arith in
-            subst (λ p. Lesser O (entry value t i p) (join O (entry value t i k) (entry value t k p)) (entry value v i p)) (sym e)
-            (subst (λ b. Lesser O (entry value t i j) b (entry value v i j)) is
-              (subst (λ b. Lesser O b (meant value way) (entry value v i j)) from-i (low .lesser))))
+          subst (λ p. Lesser O (entry value t i p) (join O (entry value t i k) (entry value t k p)) (entry value v i p)) (sym e)
+          (subst (λ b. Lesser O (entry value t i j) b (entry value v i j)) is
+          (subst (λ b. Lesser O b (meant value way) (entry value v i j)) from-i (low .lesser))))
           (cases-lt q j);
-      kept = λ c ne. low .kept c (ne j (omega arith)) ∙ sofar .kept c (λ q h. ne q (omega arith))
+      kept = λ c ne. low .kept c (ne j (omega arith)) ∙ sofar .kept c (λ q h. ne q (omega arith));
     }
 
 pub emptied-more : {K : Type 0} (i : ℕ) (t u : List (Bound K)) → i < length u → Emptied i t u → Emptied (i + 1) t (set u i NoBound)
@@ -65,5 +65,5 @@ emptied-more i t u h sofar = record {
       (λ low. getD-set-other u i c NoBound NoBound (λ e. omega arith) ∙ sofar .gone c low)
       (λ high. let e : c ≡ i = omega arith in ap (λ d. getD (set u i NoBound) d NoBound) e ∙ getD-set-same u i NoBound NoBound h)
       (cases-lt c i);
-  kept = λ c l. getD-set-other u i c NoBound NoBound (λ e. omega arith) ∙ sofar .kept c (omega arith)
+  kept = λ c l. getD-set-other u i c NoBound NoBound (λ e. omega arith) ∙ sofar .kept c (omega arith);
 }

@@ -31,8 +31,8 @@ module _ {G : Type 0} (O : Ordered G) (Given : ℕ → ℕ → G → Type 0) whe
     around i h = ⊎-elim
         (λ l. under-trans O free (going .through i l k k k<n k<n))
         (λ l. let e : i ≡ k = omega arith in
-          subst (λ m. Under O (At (O .zero)) (join O (D k m) (D m k))) (sym e)
-          (subst (λ a. Under O a (join O (D k k) (D k k))) (zero-join O (At (O .zero))) (join-mono O free free)))
+        subst (λ m. Under O (At (O .zero)) (join O (D k m) (D m k))) (sym e)
+        (subst (λ a. Under O a (join O (D k k) (D k k))) (zero-join O (At (O .zero))) (join-mono O free free)))
         (cases-lt i k)
 
     -- the bounds to and from k stay as they are
@@ -54,26 +54,28 @@ module _ {G : Type 0} (O : Ordered G) (Given : ℕ → ℕ → G → Type 0) whe
     through-old : (m : ℕ) → m < k → (i j : ℕ) → i < n → j < n → Under O (E i j) (join O (E i m) (E m j))
     through-old m h i j p q = ⊎-elim
         (λ e. ⊎-elim
-          (λ f. put e f (under-trans O (round i j p q .first) (going .through m h i j p q)))
-          (λ f. put e f (by-k i j p q _ (subst (Under O (join O (D i k) (D k j))) (join-assoc O (D i m) (D m k) (D k j)) (join-mono O (going .through m h i k p k<n) (under-refl O (D k j))))))
-          (round m j m<n q .one-of))
+        (λ f. put e f (under-trans O (round i j p q .first) (going .through m h i j p q)))
+        (λ f. put e f (by-k i j p q _ (subst (Under O (join O (D i k) (D k j))) (join-assoc O (D i m) (D m k) (D k j)) (join-mono O (going .through m h i k p k<n) (under-refl O (D k j))))))
+        (round m j m<n q .one-of))
         (λ e. ⊎-elim
-          (λ f. put e f (by-k i j p q _ (subst (Under O (join O (D i k) (D k j))) (sym (join-assoc O (D i k) (D k m) (D m j))) (join-mono O (under-refl O (D i k)) (going .through m h k j k<n q)))))
-          (λ f. put e f (by-k i j p q _ detour))
-          (round m j m<n q .one-of))
+        (λ f. put e f (by-k i j p q _ (subst (Under O (join O (D i k) (D k j))) (sym (join-assoc O (D i k) (D k m) (D m j))) (join-mono O (under-refl O (D i k)) (going .through m h k j k<n q)))))
+        (λ f. put e f (by-k i j p q _ detour))
+        (round m j m<n q .one-of))
         (round i m p m<n .one-of)
       where
         m<n : m < n
         m<n = omega arith
+
         put : {a b : Bound G} → E i m ≡ a → E m j ≡ b → Under O (E i j) (join O a b) → Under O (E i j) (join O (E i m) (E m j))
         put {a} {b} e f u = subst (λ c. Under O (E i j) (join O c (E m j))) (sym e) (subst (λ c. Under O (E i j) (join O a c)) (sym f) u)
+
         detour : Under O (join O (D i k) (D k j)) (join O (join O (D i k) (D k m)) (join O (D m k) (D k j)))
         detour =
             subst (Under O (join O (D i k) (D k j)))
             (ap (join O (D i k)) (join-assoc O (D k m) (D m k) (D k j)) ∙ sym (join-assoc O (D i k) (D k m) (join O (D m k) (D k j))))
             (join-mono O (under-refl O (D i k))
-              (subst (λ a. Under O a (join O (join O (D k m) (D m k)) (D k j))) (zero-join O (D k j))
-                (join-mono O (around m (omega arith)) (under-refl O (D k j)))))
+            (subst (λ a. Under O a (join O (join O (D k m) (D m k)) (D k j))) (zero-join O (D k j))
+            (join-mono O (around m (omega arith)) (under-refl O (D k j)))))
 
     pub round-keeps : Going O Given n (k + 1) E
     round-keeps = record {
@@ -85,16 +87,16 @@ module _ {G : Type 0} (O : Ordered G) (Given : ℕ → ℕ → G → Type 0) whe
       still = λ i p. under-trans O (round i i p p .first) (going .still i p);
       settled = λ i h. ⊎-elim
           (λ f. subst (Under O (At (O .zero))) (sym f) (⊎-elim
-            (λ l. going .settled i l)
-            (λ l. let e : i ≡ k = omega arith in subst (λ m. Under O (At (O .zero)) (D m m)) (sym e) free)
-            (cases-lt i k)))
+          (λ l. going .settled i l)
+          (λ l. let e : i ≡ k = omega arith in subst (λ m. Under O (At (O .zero)) (D m m)) (sym e) free)
+          (cases-lt i k)))
           (λ f. subst (Under O (At (O .zero))) (sym (f ∙ join-comm O (D i k) (D k i))) (around i h))
           (round i i (omega arith) (omega arith) .one-of);
       through = λ m h i j p q. ⊎-elim
           (λ l. through-old m l i j p q)
           (λ l. let e : m ≡ k = omega arith in
-            subst (λ v. Under O (E i j) (join O (E i v) (E v j))) (sym e)
-            (by-k i j p q _ (join-mono O (to-k i p) (from-k j q))))
+          subst (λ v. Under O (E i j) (join O (E i v) (E v j))) (sym e)
+          (by-k i j p q _ (join-mono O (to-k i p) (from-k j q))))
           (cases-lt m k);
     }
 

@@ -27,11 +27,11 @@ module _ {K G : Type 0} (O : Ordered G) (value : K → G) where
       lowered = λ p h. ⊎-elim
           (λ l. subst (Lesser O (entry value t p p) (At (O .zero))) (ap (meant value) (sym (low .kept (cell p p) (λ e. omega arith)))) (sofar .lowered p l))
           (λ l. let e : p ≡ i = omega arith in
-            subst (λ q. Lesser O (entry value t q q) (At (O .zero)) (entry value v q q)) (sym e)
-            (subst (λ b. Lesser O b (At (O .zero)) (entry value v i i)) (ap (meant value) (sofar .kept (cell i i) (λ q l e. omega arith)))
-              (subst (λ b. Lesser O (entry value u i i) b (entry value v i i)) is (low .lesser))))
+          subst (λ q. Lesser O (entry value t q q) (At (O .zero)) (entry value v q q)) (sym e)
+          (subst (λ b. Lesser O b (At (O .zero)) (entry value v i i)) (ap (meant value) (sofar .kept (cell i i) (λ q l e. omega arith)))
+          (subst (λ b. Lesser O (entry value u i i) b (entry value v i i)) is (low .lesser))))
           (cases-lt p i);
-      kept = λ c ne. low .kept c (ne i (omega arith)) ∙ sofar .kept c (λ q h. ne q (omega arith))
+      kept = λ c ne. low .kept c (ne i (omega arith)) ∙ sofar .kept c (λ q h. ne q (omega arith));
     }
 
   module _ (weight : G → ℕ) (n k i : ℕ) (n≤8 : n ≤ 8) (k<n : k < n) (i<n : i < n) (t u v : List (Bound K)) (sofar : Rounding O value weight n k i t u) where
@@ -41,15 +41,15 @@ module _ {K G : Type 0} (O : Ordered G) (value : K → G) where
       lowered = λ free p j h q light. ⊎-elim
           (λ l. sofar .lowered free p j l q light)
           (λ l. let e : p ≡ k = omega arith in
-            subst (λ r. Lesser O (entry value t r j) (join O (entry value t r k) (entry value t k j)) (entry value u r j)) (sym e)
-            (subst (Lesser O (entry value t k j) (join O (entry value t k k) (entry value t k j))) (ap (meant value) (sym (sofar .kept (cell k j) (λ r w h′ ne l′ e′. omega arith))))
-              (record {
-                one-of = inl refl;
-                first = under-refl O (entry value t k j);
-                second = subst (λ b. Under O b (join O (entry value t k k) (entry value t k j))) (zero-join O (entry value t k j)) (join-mono O free (under-refl O (entry value t k j)))
-              })))
+          subst (λ r. Lesser O (entry value t r j) (join O (entry value t r k) (entry value t k j)) (entry value u r j)) (sym e)
+          (subst (Lesser O (entry value t k j) (join O (entry value t k k) (entry value t k j))) (ap (meant value) (sym (sofar .kept (cell k j) (λ r w h′ ne l′ e′. omega arith))))
+          (record {
+            one-of = inl refl;
+            first = under-refl O (entry value t k j);
+            second = subst (λ b. Under O b (join O (entry value t k k) (entry value t k j))) (zero-join O (entry value t k j)) (join-mono O free (under-refl O (entry value t k j)));
+          })))
           (cases-lt p i);
-      kept = λ c ne. sofar .kept c (λ p j h. ne p j (omega arith))
+      kept = λ c ne. sofar .kept c (λ p j h. ne p j (omega arith));
     }
 
     pub rounding-more : (i ≡ k → ⊥) → Relaxed O value weight i k n u v → Rounding O value weight n k (i + 1) t v
@@ -57,25 +57,27 @@ module _ {K G : Type 0} (O : Ordered G) (value : K → G) where
       lowered = λ free p j h q light. ⊎-elim
           (λ l. subst (Lesser O (entry value t p j) (join O (entry value t p k) (entry value t k j))) (ap (meant value) (sym (row .kept (cell p j) (λ w l′ e. omega arith)))) (sofar .lowered free p j l q light))
           (λ l. let e : p ≡ i = omega arith in
-            subst (λ r. Lesser O (entry value t r j) (join O (entry value t r k) (entry value t k j)) (entry value v r j)) (sym e) (last j q
-              (subst (λ r. weighs weight (entry value t r k) + weighs weight (entry value t k j) ≤ 16777216) e light)))
+          subst (λ r. Lesser O (entry value t r j) (join O (entry value t r k) (entry value t k j)) (entry value v r j)) (sym e) (last j q
+          (subst (λ r. weighs weight (entry value t r k) + weighs weight (entry value t k j) ≤ 16777216) e light)))
           (cases-lt p i);
-      kept = λ c ne. row .kept c (λ j h. ne i j (omega arith) i≢k h) ∙ sofar .kept c (λ p j h. ne p j (omega arith))
+      kept = λ c ne. row .kept c (λ j h. ne i j (omega arith) i≢k h) ∙ sofar .kept c (λ p j h. ne p j (omega arith));
     }
       where
         -- the rows from i on, and row k, are still those of t
         own : (j : ℕ) → j < n → entry value u i j ≡ entry value t i j
         own j q = ap (meant value) (sofar .kept (cell i j) (λ p w h ne l e. omega arith))
+
         through : (j : ℕ) → j < n → entry value u k j ≡ entry value t k j
         through j q = ap (meant value) (sofar .kept (cell k j) (λ p w h ne l e. omega arith))
+
         last : (j : ℕ) → j < n → weighs weight (entry value t i k) + weighs weight (entry value t k j) ≤ 16777216 → Lesser O (entry value t i j) (join O (entry value t i k) (entry value t k j)) (entry value v i j)
         last j q light =
             subst (λ b. Lesser O b (join O (entry value t i k) (entry value t k j)) (entry value v i j)) (own j q)
             (subst (λ b. Lesser O (entry value u i j) (join O b (entry value t k j)) (entry value v i j)) (own k k<n)
-              (subst (λ b. Lesser O (entry value u i j) (join O (entry value u i k) b) (entry value v i j)) (through j q)
-                (row .lowered j q
-                  (subst (λ b. weighs weight b + weighs weight (entry value u k j) ≤ 16777216) (sym (own k k<n))
-                    (subst (λ b. weighs weight (entry value t i k) + weighs weight b ≤ 16777216) (sym (through j q)) light)))))
+            (subst (λ b. Lesser O (entry value u i j) (join O (entry value u i k) b) (entry value v i j)) (through j q)
+            (row .lowered j q
+            (subst (λ b. weighs weight b + weighs weight (entry value u k j) ≤ 16777216) (sym (own k k<n))
+            (subst (λ b. weighs weight (entry value t i k) + weighs weight b ≤ 16777216) (sym (through j q)) light)))))
 
 module _ {K G : Type 0} (O : Ordered G) (value : K → G) (weight : G → ℕ) {bound stamp : G → _} (weighed : Weighed O weight bound stamp) (n : ℕ) (n≤8 : n ≤ 8) where
   join-light : (a b : Bound G) (w : ℕ) → weighs weight a ≤ w → weighs weight b ≤ w → weighs weight (join O a b) ≤ w + w
@@ -90,19 +92,20 @@ module _ {K G : Type 0} (O : Ordered G) (value : K → G) (weight : G → ℕ) {
           let before = sofar .going M start light in
           let small : 2 ^ k ≤ 2 ^ 8 = pow-mono {i = k} {j = 8} (omega arith) in
           let twice = pow-add 2 k 1 in
-          let each : Round O n k (entry value u) (entry value v) = λ i j p q. round .lowered (under O free) i j p q (omega (arith, before .1 i k p k<n, before .1 k j k<n q)) in
-          (round-keeps O (Tabled value n M) n k k<n (entry value u) (entry value v) (before .0) (under O free) each,
-           λ i j p q. ⊎-elim
-             (λ e. subst (λ b. weighs weight b ≤ 2 ^ (k + 1)) (sym e) (omega (arith, before .1 i j p q)))
-             (λ e. subst (λ b. weighs weight b ≤ 2 ^ (k + 1)) (sym e) (omega (arith, join-light (entry value u i k) (entry value u k j) (2 ^ k) (before .1 i k p k<n) (before .1 k j k<n q))))
-             (each i j p q .one-of));
-      kept = λ c ne. round .kept c (λ p j h _ q. ne p j h q) ∙ sofar .kept c ne
+          let each : Round O n k (entry value u) (entry value v) = λ i j p q. round .lowered (under O free) i j p q (omega (arith, before .1 i k p k<n, before .1 k j k<n q)) in (
+            round-keeps O (Tabled value n M) n k k<n (entry value u) (entry value v) (before .0) (under O free) each,
+            λ i j p q. ⊎-elim
+                (λ e. subst (λ b. weighs weight b ≤ 2 ^ (k + 1)) (sym e) (omega (arith, before .1 i j p q)))
+                (λ e. subst (λ b. weighs weight b ≤ 2 ^ (k + 1)) (sym e) (omega (arith, join-light (entry value u i k) (entry value u k j) (2 ^ k) (before .1 i k p k<n) (before .1 k j k<n q))))
+                (each i j p q .one-of),
+          );
+      kept = λ c ne. round .kept c (λ p j h _ q. ne p j h q) ∙ sofar .kept c ne;
     }
 
     pub ran-below : Running O value weight n k t u → at-most O (At (O .zero)) (entry value u k k) ≡ false → Ran O value weight n t u false
     ran-below sofar low = record {
       outcome = λ M start light. below-zero O (Tabled value n M) n k (entry value u) (sofar .going M start light .0) k k<n low;
-      kept = sofar .kept
+      kept = sofar .kept;
     }
 
   pub ran-all : (t u : List (Bound K)) → Running O value weight n n t u → Ran O value weight n t u true
@@ -120,9 +123,9 @@ module _ {K G : Type 0} (O : Ordered G) (value : K → G) where
     either : (i j : ℕ) → i < n → j < n → (entry value u i j ≡ entry value t i j) ⊎ ((i ≡ j) × (entry value u i j ≡ At (O .zero)))
     either i j p q = ⊎-elim
         (λ e. ⊎-elim
-          (λ s. inl (subst (λ k. entry value u i k ≡ entry value t i k) e s))
-          (λ s. inr (e, subst (λ k. entry value u i k ≡ At (O .zero)) e s))
-          (ground .lowered i p .one-of))
+        (λ s. inl (subst (λ k. entry value u i k ≡ entry value t i k) e s))
+        (λ s. inr (e, subst (λ k. entry value u i k ≡ At (O .zero)) e s))
+        (ground .lowered i p .one-of))
         (λ ne. inl (off i j p q ne))
         (cases-eq i j)
 
@@ -135,11 +138,12 @@ module _ {K G : Type 0} (O : Ordered G) (value : K → G) where
       given = λ i j p q c h. subst (Under O (entry value u i j)) (h .2) (below i j p q);
       still = λ i p. ground .lowered i p .second;
       settled = λ i h. absurd (omega arith);
-      through = λ m h. absurd (omega arith)
+      through = λ m h. absurd (omega arith);
     }
       where
         at-same : {x y : G} → At x ≡ At y → x ≡ y
         at-same e = cc
+
         below : (i j : ℕ) → i < n → j < n → Under O (entry value u i j) (entry value t i j)
         below i j p q = ⊎-elim
             (λ e. subst (λ k. Under O (entry value u i k) (entry value t i k)) e (ground .lowered i p .first))

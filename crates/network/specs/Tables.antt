@@ -49,7 +49,7 @@ module _ {K G : Type 0} (value : K → G) where
   abbrev pub Closes : Ordered G → (G → Bool) → ℕ → List (Bound K) → List (Bound K) → Result (Unit {0}) Unclosed → Type 0
   Closes group bound n before after (Ok _) =
       InRange n before × Admitted bound n before × (Contradictory group (Tabled n before) → ⊥)
-        × ((i j : ℕ) → i < n → j < n → Closed group (Tabled n before) i j (entry after i j))
+      × ((i j : ℕ) → i < n → j < n → Closed group (Tabled n before) i j (entry after i j))
   Closes group bound n before after (Err OutOfRange) = (InRange n before → ⊥) × (after ≡ before)
   Closes group bound n before after (Err NotAdmitted) = InRange n before × (Admitted bound n before → ⊥) × (after ≡ before)
   Closes group bound n before after (Err Contradiction) =

@@ -3,13 +3,15 @@ ghost use mathlib.Core.Path.{_≡_};
 ghost use mathlib.Core.Bool.{true, false};
 ghost use Prim.Native.Nat.{ℕ, _+_, _*_, _<_, _≤_};
 ghost use lib.ListN.{length, getD, set};
-ghost use Rattle.kinds.specs.Bounds.{join, weighs, meant};
+ghost use Rattle.kinds.specs.Bounds.{at-most, join, weighs, meant};
 ghost use Rattle.kinds.specs.declared.bound.Bound.the-variants.{At, NoBound};
 ghost use Rattle.network.specs.Tables.{cell, entry, Inside, InRange};
 ghost use Rattle.network.specs.Steps.{Lesser, Relaxed, Rounding, Grounded, Ran};
 ghost use Rattle.network.specs.Tables.{Admitted, Closes, Elsewhere};
 ghost use Rattle.kinds.specs.Bounds.{admits};
+ghost use Rattle.std.specs.Options.{isSome};
 ghost use Rattle.std.specs.Orderings.{Decides};
+ghost use Rattle.std.specs.declared.option.Option.the-variants.{Some};
 use crate::cells::CELLS;
 use crate::cells::MOST_VARIABLES;
 use crate::cells::get;
@@ -24,6 +26,15 @@ pub enum Unclosed {
     Contradiction,
 }
 
+// The sum of a bound to k and that from k to j: exact where it is present, and present while the weights are small.
+fn joined<K: Kind>(table: &[Bound<K>], via: &Bound<K>, k: usize, j: usize) -> Option<Bound<K>>
+    requires { ⌜ Inside k j (now table) ⌝ }
+    ensures exact { λ r. ⌜ ((s : Bound K) → r ≡ Some s → meant value s ≡ join group (meant value (now (via .entry))) (entry value (now (table .entry)) k j)) ⌝ }
+    ensures present { λ r. ⌜ (weighs weight (meant value (now (via .entry))) + weighs weight (entry value (now (table .entry)) k j) ≤ 16777216 → isSome r ≡ true) ⌝ }
+{
+    via.plus(&get(table, k, j))
+}
+
 // Lowers each bound from i to the way by k, which is another variable.
 fn relax_row<K: Kind>(table: &mut [Bound<K>], width: usize, k: usize, i: usize)
     requires { ⌜ Inside i k (now table) ⌝ ∗ ⌜ InRange width (now table) ⌝ ∗ ⌜ (i ≡ k → ⊥) ⌝ }
@@ -31,7 +42,7 @@ fn relax_row<K: Kind>(table: &mut [Bound<K>], width: usize, k: usize, i: usize)
 {
     let via = get(table, i, k);
     for j in 0..width {
-        if let Some(way) = via.plus(&get(table, k, j)) {
+        if let Some(way) = joined(table, &via, k, j) {
             lower(table, i, j, way);
         }
     }
@@ -55,9 +66,18 @@ fn ground<K: Kind>(table: &mut [Bound<K>], width: usize)
     ensures { λ _. ⌜ Grounded group value width (now (table .entry)) (now (table .exit)) ⌝ }
 {
     let zero = Bound::At(K::zero());
-    for i in 0..width {
-        lower(table, i, i, zero);
+    for d in 0..width {
+        lower(table, d, d, zero);
     }
+}
+
+// Whether the bound from k to itself is not below zero.
+fn is_settled<K: Kind>(table: &[Bound<K>], k: usize) -> bool
+    requires { ⌜ Inside k k (now table) ⌝ }
+    ensures { λ r. ⌜ r ≡ at-most group (At (group .zero)) (entry value (now (table .entry)) k k) ⌝ }
+{
+    let zero = Bound::At(K::zero());
+    zero.at_most(&get(table, k, k))
 }
 
 // The rounds of the closure; false where a cycle sums below zero.
@@ -65,10 +85,9 @@ fn rounds<K: Kind>(table: &mut [Bound<K>], width: usize) -> bool
     requires { ⌜ InRange width (now table) ⌝ }
     ensures { λ r. ⌜ Ran group value weight width (now (table .entry)) (now (table .exit)) r ⌝ }
 {
-    let zero = Bound::At(K::zero());
     for k in 0..width {
         // A cycle below zero shows here, before the round of its highest variable.
-        if !zero.at_most(&get(table, k, k)) {
+        if !is_settled(table, k) {
             return false;
         }
         relax(table, width, k);

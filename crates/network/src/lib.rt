@@ -2,3 +2,5 @@
 mod cells;
 pub mod closing;
 pub mod table;
+#[cfg(test)]
+mod tests;

@@ -15,7 +15,10 @@ impl Types {
     pub fn new() -> Types
         ensures { λ r. ⌜ typeNames r ≡ [] ⌝ }
     {
-        Types { names: [None; 8], count: 0 }
+        Types {
+            names: [None; 8],
+            count: 0,
+        }
     }
 
     pub fn len(&self) -> usize

@@ -17,4 +17,4 @@ returns g c d old =
     agrees-ok (withType (c .args .line) d (spelled (c .args .name))) _ _
     (cond-true _ _ _ (sym (c .push .ensures .room ∙ ap (λ ts. ltb (length ts) 8) (old .types)) ∙ room))
     (type-added (m .group) (m .value) (m .bound) (c .args .draft .now) (c .args .table .now) d old (c .push .last .self) (spelled (c .args .name))
-      (c .push .ensures .after ∙ cond-true _ _ _ room))
+    (c .push .ensures .after ∙ cond-true _ _ _ room))

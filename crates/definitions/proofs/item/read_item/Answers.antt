@@ -18,6 +18,6 @@ returns-in-Bound g c =
     let fs = split 9 (c .args .line .now) in
     let word = ap (wordAt (c .args .number)) (sym (c .part .ensures)) ∙ sym (c .word-at .ensures) ∙ c .in-Some .is ∙ ap Some (c .in-Bound .is) in
     let counted : length fs ≡ 3 + m .fields =
-      sym (c .count .ensures) ∙ eqb-true _ _ (sym (c .has-fields .ensures) ∙ c .if-not-has-fields .left) ∙ ap (fieldsOf (m .fields)) (c .in-Bound .is) in
+    sym (c .count .ensures) ∙ eqb-true _ _ (sym (c .has-fields .ensures) ∙ c .if-not-has-fields .left) ∙ ap (fieldsOf (m .fields)) (c .in-Bound .is) in
     let long : 3 < length fs = omega (arith, m .takes .some) in
     subst (λ a. Says (m .value) a (c .read-limit .result)) (sym (item-valued (m .fields) (m .means) (m .bound) (c .args .number) fs Bound word counted)) (c .read-limit .ensures long)

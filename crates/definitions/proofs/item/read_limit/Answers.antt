@@ -24,7 +24,7 @@ returns-in-Break-most g c long =
     let p = err-from-errBy (c .from-residual-in-Break-most .result) (c .from-residual-in-Break-most .ensures .1) in
     let e = c .in-Break-most .ensures tt long in
     rw (p .1, p .2) (limit-most (m .fields) (m .means) (m .bound) (c .args .number) fs (c .in-Continue-i .i) (okOr-ok (small (getD fs 1 [])) _ _ (c .in-Continue-i .ensures tt .value))
-      (c .in-Continue-j .j) (okOr-ok (small (getD fs 2 [])) _ _ (c .in-Continue-j .ensures tt .value)) (e .0) ∙ ap Err (sym (e .1)))
+    (c .in-Continue-j .j) (okOr-ok (small (getD fs 2 [])) _ _ (c .in-Continue-j .ensures tt .value)) (e .0) ∙ ap Err (sym (e .1)))
 
 pub returns : need.returns
 returns g c long =

@@ -31,9 +31,9 @@ returns-in-Break-accept g c =
     let allowed = item-admits (m .fields) (m .means) (m .bound) (c .args .number) (split 9 (c .in-Continue-line .line .now)) said says in
     rw (p .1, p .2) (record {
       step = λ d old. step-refused (m .fields) (m .means) (m .bound) (c .args .loaded .now) (c .args .number) d (split 10 (drop (c .args .used) (c .args .text .now))) (c .in-Continue-line .line .now)
-        (c .in-Continue-line .ensures tt) said says (lineEnd (c .args .text .now) (c .args .used)) _ _ (c .in-Break-accept .field-0 .0) (c .in-Break-accept .ensures tt .adds d old allowed);
+          (c .in-Continue-line .ensures tt) said says (lineEnd (c .args .text .now) (c .args .used)) _ _ (c .in-Break-accept .field-0 .0) (c .in-Break-accept .ensures tt .adds d old allowed);
       kept = c .accept .ensures .kept;
-      on = tt
+      on = tt;
     })
 
 pub returns : need.returns
@@ -47,8 +47,8 @@ returns g c =
     let within = line-within (c .args .number) (c .args .used) (c .args .text .now) line first in
     record {
       step = λ d old. step-accepted (m .fields) (m .means) (m .bound) (c .args .loaded .now) (c .args .number) d (split 10 (drop (c .args .used) (c .args .text .now))) line
-        first said says (lineEnd (c .args .text .now) (c .args .used)) (Drafted (m .group) (m .value) (m .bound) (c .accept .last .draft) (c .accept .last .table))
-        (c .args .used + length line + 1) (c .is-closing .result) (line-ends (c .args .number) (c .args .used) (c .args .text .now) line first) (c .is-closing .ensures) (c .in-Continue-accept .ensures tt .adds d old allowed);
+          first said says (lineEnd (c .args .text .now) (c .args .used)) (Drafted (m .group) (m .value) (m .bound) (c .accept .last .draft) (c .accept .last .table))
+          (c .args .used + length line + 1) (c .is-closing .result) (line-ends (c .args .number) (c .args .used) (c .args .text .now) line first) (c .is-closing .ensures) (c .in-Continue-accept .ensures tt .adds d old allowed);
       kept = c .accept .ensures .kept;
-      on = (omega arith, within)
+      on = (omega arith, within);
     }

@@ -32,7 +32,7 @@ returns-in-Break-step g c =
           let at = c .lines .inv .3 empty in
           let refused = steps-err (judged (m .fields) (m .means) (m .bound) (c .args .loaded .now) (c .lines .number) (at .0) (split 10 (drop (c .lines .used) (c .args .text .now)))) (lineEnd (c .args .text .now) (c .lines .used)) _ (c .in-Break-step .field-0 .0) (told .step (at .0) (at .1)) in
           subst (λ r. Parses r (Held (m .group) (m .value) (m .bound) (c .read-line .last .table)) (Err (c .in-Break-step .field-0 .0)))
-          (sym (read-fault (m .fields) (m .means) (m .bound) (c .args .loaded .now) (c .lines .number) (c .lines .used) (at .0) (c .args .text .now) (c .in-Break-step .field-0 .0) refused) ∙ at .2) refl
+          (sym (read-fault (m .fields) (m .means) (m .bound) (c .args .loaded .now) (c .lines .number) (c .lines .used) (at .0) (c .args .text .now) (c .in-Break-step .field-0 .0) refused) ∙ at .2) refl;
     })
 
 pub returns-then-step : need.returns-then-step
@@ -58,12 +58,17 @@ pub lines-again : need.lines-again
 lines-again g c =
     let m = g .K·Kind in
     let told = c .in-Continue-step .ensures tt in
-    let text = c .args .text .now in
-    (told .on .1, omega (arith, told .on .0, c .lines .inv .1), λ k h. told .kept k h ∙ c .lines .inv .2 k h,
+    let text = c .args .text .now in (
+      told .on .1,
+      omega (arith, told .on .0, c .lines .inv .1),
+      λ k h. told .kept k h ∙ c .lines .inv .2 k h,
       λ empty.
           let at = c .lines .inv .3 empty in
           let went = steps-ok (judged (m .fields) (m .means) (m .bound) (c .args .loaded .now) (c .lines .number) (at .0) (split 10 (drop (c .lines .used) text))) (lineEnd text (c .lines .used)) _ (c .in-Continue-step .step) (told .step (at .0) (at .1)) in
-          let goes = sym (went .3) ∙ c .if-step .left in
-          (went .0 .makes, went .4,
+          let goes = sym (went .3) ∙ c .if-step .left in (
+            went .0 .makes,
+            went .4,
             ap (λ k. readFrom (m .fields) (m .means) (m .bound) (c .args .loaded .now) (c .lines .number + 1) k (went .0 .makes) (split 10 (drop k text))) (went .2)
-              ∙ sym (read-on (m .fields) (m .means) (m .bound) (c .args .loaded .now) (c .lines .number) (c .lines .used) (at .0) text (went .0) (went .1) goes) ∙ at .2))
+                ∙ sym (read-on (m .fields) (m .means) (m .bound) (c .args .loaded .now) (c .lines .number) (c .lines .used) (at .0) text (went .0) (went .1) goes) ∙ at .2,
+          ),
+    )

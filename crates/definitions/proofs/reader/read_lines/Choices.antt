@@ -10,10 +10,10 @@ use Rattle.definitions.proofs.reader.read_lines.Given as given
 
 abbrev pub Inv-lines : given.InvT-lines
 Inv-lines g l = let m = g .K·Kind in
-  (l .used ≤ length (l .text)) × (l .number ≤ l .used + 1) × Beyond (l .entry .table) (l .table)
+    (l .used ≤ length (l .text)) × (l .number ≤ l .used + 1) × Beyond (l .entry .table) (l .table)
     × (Empty (m .group) (m .value) (l .entry .table) →
-      (d : Chronicle (m .G)) × Drafted (m .group) (m .value) (m .bound) (l .draft) (l .table) d
-        × (readFrom (m .fields) (m .means) (m .bound) (l .loaded) (l .number) (l .used) d (split 10 (drop (l .used) (l .text))) ≡ readFrom (m .fields) (m .means) (m .bound) (l .loaded) 1 0 blank (split 10 (l .text))))
+    (d : Chronicle (m .G)) × Drafted (m .group) (m .value) (m .bound) (l .draft) (l .table) d
+    × (readFrom (m .fields) (m .means) (m .bound) (l .loaded) (l .number) (l .used) d (split 10 (drop (l .used) (l .text))) ≡ readFrom (m .fields) (m .means) (m .bound) (l .loaded) 1 0 blank (split 10 (l .text))))
 
 abbrev pub μ-lines : given.MeasureT-lines
 μ-lines g l = length (l .text) - l .used

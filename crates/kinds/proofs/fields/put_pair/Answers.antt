@@ -22,7 +22,7 @@ returns-in-Break-start c =
     let a = signed-short (c .args .first) (c .fits .first .sfits) in
     let b = signed-short (c .args .second) (c .fits .second .sfits) in
     absurd (tab-goes (signed (c .args .first)) (signed (c .args .second)) a b (c .args .buffer .now) (c .pre)
-      (c .put-number .last .out) (rw back at (c .put-number .ensures .after)) (c .in-Continue-tab .tab) (rw back at (c .in-Continue-tab .ensures tt .place)) (c .in-Break-start .ensures tt .place))
+    (c .put-number .last .out) (rw back at (c .put-number .ensures .after)) (c .in-Continue-tab .tab) (rw back at (c .in-Continue-tab .ensures tt .place)) (c .in-Break-start .ensures tt .place))
 
 pub returns : need.returns
 returns c =
@@ -35,7 +35,7 @@ returns c =
     let last = rw again at (c .put-number-2 .ensures .after) in
     record {
       end = (rw again at (c .put-number-2 .ensures .place))
-        ∙ both-placed (signed (c .args .first)) (signed (c .args .second)) a b (c .args .buffer .now) (c .pre) (c .put-number .last .out) one (c .in-Continue-tab .tab) tab
+          ∙ both-placed (signed (c .args .first)) (signed (c .args .second)) a b (c .args .buffer .now) (c .pre) (c .put-number .last .out) one (c .in-Continue-tab .tab) tab
           (c .put .last .out) (c .put .ensures .after) (c .in-Continue-start .start) (c .in-Continue-start .ensures tt .place) (c .put-number-2 .last .out) last;
       short = omega (arith, length-append (signed (c .args .first)) (9 ∷ signed (c .args .second)));
       text = both-text (signed (c .args .first)) (signed (c .args .second)) a b (c .args .buffer .now) (c .pre) (c .put-number .last .out) one (c .in-Continue-tab .tab) tab

@@ -1,20 +1,17 @@
-use mathlib.Core.Path.{_≡_, sym, ap, subst, _∙_}
-use Prim.Native.Nat.{_<_, _≤_}
-use native.Mathlib.Omega.{arith}
-use Rattle.kinds.specs.Bounds.{at-most, meant}
+use mathlib.Core.Path.{sym, subst, _∙_}
 use Rattle.network.specs.Steps.{Tightened}
 use Rattle.network.proofs.Lowering.{lowered, left}
 use Rattle.network.proofs.cells.lower.Needs as need
 
-pub returns-then-not-at-most : need.returns-then-not-at-most
-returns-then-not-at-most g c =
+pub returns-then-not-is-within : need.returns-then-not-is-within
+returns-then-not-is-within g c =
     let m = g .K·Kind in
-    let above = ap (λ b. at-most (m .group) (meant (m .value) b) (meant (m .value) (c .args .other))) (sym (c .get .ensures)) ∙ sym (c .at-most .ensures) ∙ c .if-not-at-most .taken in
+    let above = sym (c .is-within .ensures) ∙ c .if-not-is-within .taken in
     subst (Tightened (m .group) (m .value) (c .args .i) (c .args .j) (c .args .other) (c .args .table .now)) (sym (c .put .ensures))
     (lowered (m .group) (m .value) (c .args .i) (c .args .j) (c .pre .0) (c .pre .1) (c .args .other) (c .args .table .now) (c .pre .2) above)
 
-pub returns-else-not-at-most : need.returns-else-not-at-most
-returns-else-not-at-most g c =
+pub returns-else-not-is-within : need.returns-else-not-is-within
+returns-else-not-is-within g c =
     let m = g .K·Kind in
-    let under = ap (λ b. at-most (m .group) (meant (m .value) b) (meant (m .value) (c .args .other))) (sym (c .get .ensures)) ∙ sym (c .at-most .ensures) ∙ c .if-not-at-most .left in
+    let under = sym (c .is-within .ensures) ∙ c .if-not-is-within .left in
     left (m .group) (m .value) (c .args .i) (c .args .j) (c .pre .0) (c .pre .1) (c .args .other) (c .args .table .now) under

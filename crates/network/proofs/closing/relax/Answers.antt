@@ -18,8 +18,8 @@ loop-i-again g c =
     let i<n : i < n = omega arith in
     let Goal = Rounding (m .group) (m .value) (m .weight) n k (i + 1) t in
     elim (c .if-i-k .came) [
-      then-i-k w ↦ subst Goal (sym (w .table-is)) (rounding-more (m .group) (m .value) (m .weight) n k i n≤8 k<n i<n t (c .loop-i .table) (w .relax-row .last .table) (c .loop-i .inv) (w .if-i-k .taken) (w .relax-row .ensures))
-    | else-i-k w ↦ subst Goal (sym (w .table-is)) (rounding-skip (m .group) (m .value) (m .weight) n k i n≤8 k<n i<n t (c .loop-i .table) t (c .loop-i .inv) (w .if-i-k .left))
+      | then-i-k w ↦ subst Goal (sym (w .table-is)) (rounding-more (m .group) (m .value) (m .weight) n k i n≤8 k<n i<n t (c .loop-i .table) (w .relax-row .last .table) (c .loop-i .inv) (w .if-i-k .taken) (w .relax-row .ensures))
+      | else-i-k w ↦ subst Goal (sym (w .table-is)) (rounding-skip (m .group) (m .value) (m .weight) n k i n≤8 k<n i<n t (c .loop-i .table) t (c .loop-i .inv) (w .if-i-k .left))
     ]
 
 pub returns : need.returns

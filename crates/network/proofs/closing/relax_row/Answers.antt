@@ -21,16 +21,16 @@ loop-j-again g c =
     let k<8 : k < 8 = c .pre .0 .1 in
     let j<8 : j < 8 = omega arith in
     let to = ap (meant (m .value)) (c .get-via .ensures) in
-    let on = ap (meant (m .value)) (c .get .ensures) ∙ from-k (m .group) (m .value) (m .weight) i k i<8 k<8 (c .pre .1 .1) j j<8 t u (c .loop-j .inv) in
-    elim (c .match-plus .came) [
-      in-Some w ↦
-        subst (Relaxed (m .group) (m .value) (m .weight) i k (j + 1) t) (sym (w .table-is))
-        (relaxed-more (m .group) (m .value) (m .weight) i k i<8 k<8 (c .pre .1 .1) j j<8 t u (c .loop-j .inv) (w .in-Some .way) (w .lower .last .table) (w .lower .ensures)
-          (w .in-Some .ensures tt .exact (w .in-Some .way) refl ∙ ap (λ b. join (m .group) b (meant (m .value) (c .get .result))) to ∙ ap (join (m .group) (entry (m .value) t i k)) on))
-    | in-rest w ↦
-        subst (Relaxed (m .group) (m .value) (m .weight) i k (j + 1) t) (sym (w .table-is))
-        (relaxed-skip (m .group) (m .value) (m .weight) i k i<8 k<8 (c .pre .1 .1) j j<8 t u (c .loop-j .inv)
+    let on = from-k (m .group) (m .value) (m .weight) i k i<8 k<8 (c .pre .1 .1) j j<8 t u (c .loop-j .inv) in
+    elim (c .match-joined .came) [
+      | in-Some w ↦
+          subst (Relaxed (m .group) (m .value) (m .weight) i k (j + 1) t) (sym (w .table-is))
+          (relaxed-more (m .group) (m .value) (m .weight) i k i<8 k<8 (c .pre .1 .1) j j<8 t u (c .loop-j .inv) (w .in-Some .way) (w .lower .last .table) (w .lower .ensures)
+          (w .in-Some .ensures tt .exact (w .in-Some .way) refl ∙ ap (λ b. join (m .group) b (entry (m .value) u k j)) to ∙ ap (join (m .group) (entry (m .value) t i k)) on))
+      | in-rest w ↦
+          subst (Relaxed (m .group) (m .value) (m .weight) i k (j + 1) t) (sym (w .table-is))
+          (relaxed-skip (m .group) (m .value) (m .weight) i k i<8 k<8 (c .pre .1 .1) j j<8 t u (c .loop-j .inv)
           (λ light. false≢true (w .in-rest .ensures tt .present
-            (subst (λ b. weighs (m .weight) b + weighs (m .weight) (meant (m .value) (c .get .result)) ≤ 16777216) (sym to)
-              (subst (λ b. weighs (m .weight) (entry (m .value) t i k) + weighs (m .weight) b ≤ 16777216) (sym on) light)))))
+          (subst (λ b. weighs (m .weight) b + weighs (m .weight) (entry (m .value) u k j) ≤ 16777216) (sym to)
+          (subst (λ b. weighs (m .weight) (entry (m .value) t i k) + weighs (m .weight) b ≤ 16777216) (sym on) light)))))
     ]

@@ -1,0 +1,10 @@
+pub mod Groups
+pub mod Extension
+pub mod Numbers
+pub mod Growing
+pub mod Sets
+pub mod Ticks
+pub mod Telling
+pub mod Clocks
+pub mod Tests
+pub mod Forks

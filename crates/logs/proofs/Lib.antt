@@ -1,0 +1,4 @@
+pub mod Passing
+pub mod Lawful
+pub mod Turning
+pub mod Interleaving

@@ -1,0 +1,10 @@
+pub mod Endings
+pub mod Events
+pub mod LogLines
+pub mod Reading
+pub mod LogLaw
+pub mod Lined
+pub mod TextLogs
+pub mod Merging
+pub mod Turns
+pub mod MergeLaws

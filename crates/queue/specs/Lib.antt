@@ -1,0 +1,5 @@
+pub mod Ranks
+pub mod Keys
+pub mod Heaps
+pub mod Steps
+pub mod Held
