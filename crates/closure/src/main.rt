@@ -1,4 +1,6 @@
 // Prints, for each definition in chronicles.txt, every bound that follows from those written, or what is wrong with it and where.
+#![tactic(auto)]
+
 use anyhow::anyhow;
 use definitions::loaded::{Loaded, load};
 use definitions::reader::{Definition, read};

@@ -1,4 +1,6 @@
 // Definitions of chronicles: read from text, line by line, and closed.
+#![tactic(auto)]
+
 mod draft;
 pub mod item;
 pub mod loaded;

@@ -1,4 +1,6 @@
 // Files that the programs read: at most 65,536 bytes each.
+#![tactic(auto)]
+
 ghost use Rattle.std.specs.Prelude.{◌≡◌, ◌≤◌, IfOk};
 ghost use Rattle.files.specs.Inputs.{Short, Judges, input_number};
 

@@ -1,4 +1,6 @@
 // What an event makes of rows: those that end, and those that it grows or ripens from others.
+#![tactic(auto)]
+
 pub mod ends;
 pub mod fork;
 pub mod row;

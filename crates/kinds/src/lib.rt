@@ -1,4 +1,6 @@
 // Kinds of stamp: an ordered group's elements, how they are added, compared, read and written.
+#![tactic(auto)]
+
 pub mod bound;
 mod fields;
 pub mod kind;

@@ -1,4 +1,6 @@
 // Lists in memory that the caller lends, and sinks that items are put into.
+#![tactic(auto)]
+
 mod front;
 pub mod list;
 pub mod room;

@@ -1,4 +1,6 @@
 // Log sources: records that wait, an ending, a log read from text, and the merge of two sources.
+#![tactic(auto)]
+
 pub mod ending;
 mod line;
 pub mod merge;

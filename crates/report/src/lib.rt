@@ -1,4 +1,6 @@
 // Reports: lines that tell of chronicles, and their text.
+#![tactic(auto)]
+
 mod head;
 pub mod letter;
 pub mod line;

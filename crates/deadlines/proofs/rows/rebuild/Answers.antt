@@ -3,8 +3,8 @@ use Rattle.lent.specs.Lists.{held}
 use Rattle.deadlines.proofs.Fills.{never_absent, appended_more, appended_all}
 use Rattle.deadlines.proofs.rows.rebuild.Goals as goal
 
-pub loop-i-preserved-in-default : goal.loop-i-preserved-in-default
-loop-i-preserved-in-default g c = absurd (never_absent (held c.args.rows.now) c.loop-i.i (omega arith) (sym c.in-default.ensures))
+pub loop-i-preserved-in_default : goal.loop-i-preserved-in_default
+loop-i-preserved-in_default g c = absurd (never_absent (held c.args.rows.now) c.loop-i.i (omega arith) (sym c.in_default.ensures))
 
 pub loop-i-preserved : goal.loop-i-preserved
 loop-i-preserved g c = appended_more (held c.args.rows.now) c.loop-i.i c.clear.new.self c.loop-i.queue c.append.new.self c.in-Some.row c.append.result

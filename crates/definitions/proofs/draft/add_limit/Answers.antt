@@ -18,11 +18,11 @@ returns g c =
           let l = limit_by m.value c.args.limit.now in
           let count : c.len-variables.result ≡ length d.types = c.len-variables.ensures ∙ ap length old.types in
           let small = old.held.few in
-          let pair : is_pair d l ≡ true = ap (λ n. ltb from n && (ltb to n && not (eqb from to))) (sym count) ∙ sym c.is-pair.ensures ∙ c.if-not-is-pair.false in
+          let pair : is_pair d l ≡ true = ap (λ n. ltb from n && (ltb to n && not (eqb from to))) (sym count) ∙ sym c.is_pair.ensures ∙ c.if-not-is_pair.false in
           let inside = pair_inside d l pair in
           let p = inside.0 in
           let q = inside.1 in
-          let room : ltb (length d.limits) 64 ≡ true = ap (λ n. ltb n 64) (sym old.limits) ∙ sym c.has-room.ensures ∙ c.if-not-has-room.false in
+          let room : ltb (length d.limits) 64 ≡ true = ap (λ n. ltb n 64) (sym old.limits) ∙ sym c.has_room.ensures ∙ c.if-not-has_room.false in
           let went = and_from (leb 64 (length c.args.table.now)) (ltb from 8 && ltb to 8) (le-leb 64 _ old.held.long) (and_from (ltb from 8) (ltb to 8) (lt-ltb from 8 (omega arith)) (lt-ltb to 8 (omega arith))) in
           agrees_ok (with_limit c.args.line d l) _ _
           (cond-true _ _ _ room ∙ cond-true _ _ _ pair)

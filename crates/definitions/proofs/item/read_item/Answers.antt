@@ -11,8 +11,8 @@ pub returns-in-Bound : goal.returns-in-Bound
 returns-in-Bound g c =
     let m = g.K.Kind in
     let fs = split 9 c.args.line.now in
-    let word = ap (word_at c.args.number) (sym c.part.ensures) ∙ sym c.word-at.ensures ∙ c.in-Some.is ∙ ap Some c.in-Bound.is in
+    let word = ap (word_at c.args.number) (sym c.part.ensures) ∙ sym c.word_at.ensures ∙ c.in-Some.is ∙ ap Some c.in-Bound.is in
     let counted : length fs ≡ 3 + m.fields =
-    sym c.count.ensures ∙ eqb-true _ _ (sym c.has-fields.ensures ∙ c.if-not-has-fields.false) ∙ ap (fields_of m.fields) c.in-Bound.is in
+    sym c.count.ensures ∙ eqb-true _ _ (sym c.has_fields.ensures ∙ c.if-not-has_fields.false) ∙ ap (fields_of m.fields) c.in-Bound.is in
     let long : 3 < length fs = omega (arith, m.takes.some) in
-    subst (λ a. Says m.value a c.read-limit.result) (sym (item_valued m.fields m.means m.bound c.args.number fs Bound word counted)) (c.read-limit.ensures long)
+    subst (λ a. Says m.value a c.read_limit.result) (sym (item_valued m.fields m.means m.bound c.args.number fs Bound word counted)) (c.read_limit.ensures long)

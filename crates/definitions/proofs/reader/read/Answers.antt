@@ -17,33 +17,33 @@ use Rattle.definitions.proofs.reader.read.Goals.{After-close}
 module _ (g : given.Over) (c : After-close g) where
   kept : Beyond c.args.table.now c.close.new.table
   kept k h =
-      let x = c.in-ok-definition.definition in
+      let x = c.in_ok-definition.definition in
       let few : c.len.result ≤ 8 = omega (arith, c.len.ensures, names_length x.types, x.types.fits) in
-      c.close.ensures.elsewhere k (λ i j p q e. omega arith) ∙ c.in-ok-definition.ensures.kept k h
+      c.close.ensures.elsewhere k (λ i j p q e. omega arith) ∙ c.in_ok-definition.ensures.kept k h
 
-  loads : Parses (reading_of g.K.Kind.fields g.K.Kind.means g.K.Kind.bound c.args.loaded.now c.args.text.now) (Held g.K.Kind.group g.K.Kind.value g.K.Kind.bound c.parse.new.table) (Ok c.in-ok-definition.definition) →
+  loads : Parses (reading_of g.K.Kind.fields g.K.Kind.means g.K.Kind.bound c.args.loaded.now c.args.text.now) (Held g.K.Kind.group g.K.Kind.value g.K.Kind.bound c.parse.new.table) (Ok c.in_ok-definition.definition) →
       Loads g.K.Kind.group g.K.Kind.value (reading_of g.K.Kind.fields g.K.Kind.means g.K.Kind.bound c.args.loaded.now c.args.text.now) c.close.new.table
-      (answer g.K.Kind.group g.K.Kind.value g.K.Kind.bound c.parse.new.table c.close.new.table c.in-ok-definition.definition c.close.result)
+      (answer g.K.Kind.group g.K.Kind.value g.K.Kind.bound c.parse.new.table c.close.new.table c.in_ok-definition.definition c.close.result)
   loads parsed =
       let m = g.K.Kind in
-      closing_loads m.group m.value m.bound c.parse.new.table c.close.new.table c.in-ok-definition.definition
+      closing_loads m.group m.value m.bound c.parse.new.table c.close.new.table c.in_ok-definition.definition
       (reading_of m.fields m.means m.bound c.args.loaded.now c.args.text.now)
       (λ reading e. reading_some m.fields m.means m.bound c.args.loaded.now 1 0 blank (split 10 c.args.text.now) reading e)
       parsed c.len.result c.len.ensures c.close.result c.close.ensures.closes
 
-pub returns-then-is-err : goal.returns-then-is-err
-returns-then-is-err g c =
+pub returns-then-is_err : goal.returns-then-is_err
+returns-then-is_err g c =
     let m = g.K.Kind in
-    let at = (goal.at.returns-then-is-err g c).After-close in
-    let x = c.in-ok-definition.definition in
-    let err = refused m.group m.value m.bound c.parse.new.table c.close.new.table x c.close.result (sym c.is-err.ensures.value ∙ c.if-is-err.true) in
+    let at = (goal.at.returns-then-is_err g c).After-close in
+    let x = c.in_ok-definition.definition in
+    let err = refused m.group m.value m.bound c.parse.new.table c.close.new.table x c.close.result (sym c.is_err.ensures.value ∙ c.if-is_err.true) in
     record {
       kept = kept g at;
       as-made = read_as_made m.fields m.means m.bound m.takes c.args.loaded.now c.args.text.now;
       within = tt;
       loads = when_read m.group m.value m.bound c.parse.new.table c.close.new.table x
           (reading_of m.fields m.means m.bound c.args.loaded.now c.args.text.now) (Held m.group m.value m.bound c.parse.new.table) c.args.table.now c.parse.new.table (leb 64 (length c.args.table.now)) (Err c.contradiction.result)
-          c.in-ok-definition.ensures.parses
+          c.in_ok-definition.ensures.parses
           (λ parsed. subst (Loads m.group m.value (reading_of m.fields m.means m.bound c.args.loaded.now c.args.text.now) c.close.new.table) (err ∙ ap Err (sym c.contradiction.ensures)) (loads g at parsed));
     }
 
@@ -51,27 +51,27 @@ pub returns : goal.returns
 returns g c =
     let m = g.K.Kind in
     let at = (goal.at.returns g c).After-close in
-    let x = c.in-ok-definition.definition in
-    let ok = taken m.group m.value m.bound c.parse.new.table c.close.new.table x c.close.result (sym c.is-err.ensures.value ∙ c.if-is-err.false) in
+    let x = c.in_ok-definition.definition in
+    let ok = taken m.group m.value m.bound c.parse.new.table c.close.new.table x c.close.result (sym c.is_err.ensures.value ∙ c.if-is_err.false) in
     record {
       kept = kept g at;
       as-made = read_as_made m.fields m.means m.bound m.takes c.args.loaded.now c.args.text.now;
-      within = c.in-ok-definition.ensures.within;
+      within = c.in_ok-definition.ensures.within;
       loads = when_read m.group m.value m.bound c.parse.new.table c.close.new.table x
           (reading_of m.fields m.means m.bound c.args.loaded.now c.args.text.now) (Held m.group m.value m.bound c.parse.new.table) c.args.table.now c.parse.new.table (leb 64 (length c.args.table.now)) (Ok x)
-          c.in-ok-definition.ensures.parses
+          c.in_ok-definition.ensures.parses
           (λ parsed. subst (Loads m.group m.value (reading_of m.fields m.means m.bound c.args.loaded.now c.args.text.now) c.close.new.table) ok (loads g at parsed));
     }
 
-pub returns-in-err-definition : goal.returns-in-err-definition
-returns-in-err-definition g c =
+pub returns-in_err-definition : goal.returns-in_err-definition
+returns-in_err-definition g c =
     let m = g.K.Kind in
-    let told = c.in-err-definition.ensures in
+    let told = c.in_err-definition.ensures in
     let p = err_from_is_err_and c.from-residual.result c.from-residual.ensures.1 in
     rw (p.1, p.2) (record {
       kept = told.kept;
       as-made = read_as_made m.fields m.means m.bound m.takes c.args.loaded.now c.args.text.now;
       within = tt;
       loads = when_refused m.group m.value (reading_of m.fields m.means m.bound c.args.loaded.now c.args.text.now) (Held m.group m.value m.bound c.parse.new.table)
-          c.args.table.now c.parse.new.table (leb 64 (length c.args.table.now)) c.in-err-definition.field-0.0 told.parses;
+          c.args.table.now c.parse.new.table (leb 64 (length c.args.table.now)) c.in_err-definition.field-0.0 told.parses;
     })

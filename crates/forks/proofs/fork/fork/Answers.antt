@@ -9,10 +9,10 @@ loop-j-init g c = sunk_none g.R.Sink.adds g.L.Sink.adds c.args.rows.now c.args.l
     (λ l e by. forked_start g.K.Kind l e c.args.table.now c.args.wanted.bits c.args.arrival.now c.args.parent.now by)
 
 pub loop-j-preserved : goal.loop-j-preserved
-loop-j-preserved g c = sunk_more g.R.Sink.adds g.L.Sink.adds c.args.rows.now c.loop-j.rows c.fork-at.new.rows c.args.lines.now c.loop-j.lines c.fork-at.new.lines _ _ _
+loop-j-preserved g c = sunk_more g.R.Sink.adds g.L.Sink.adds c.args.rows.now c.loop-j.rows c.fork_at.new.rows c.args.lines.now c.loop-j.lines c.fork_at.new.lines _ _ _
     (λ born born' ripe ripe' p q l e by.
     forked_more g.K.Kind l e c.args.table.now c.args.wanted.bits c.args.arrival.now c.args.parent.now by c.loop-j.j born born' ripe ripe' (p l e by) (q l e by))
-    c.loop-j.invariant c.fork-at.ensures
+    c.loop-j.invariant c.fork_at.ensures
 
 pub returns : goal.returns
 returns g c = sunk_as g.R.Sink.adds g.L.Sink.adds c.args.rows.now c.loop-j.rows c.args.lines.now c.loop-j.lines _ _

@@ -20,12 +20,12 @@ loop-i-preserved g c =
     let rows = held c.args.rows.now in
     let inside : c.loop-i.i < length rows = omega arith in
     let here : slice_get rows c.loop-i.i ≡ Some c.in-Some.row = sym (stored_nth c.args.rows.now c.loop-i.rows c.loop-i.invariant.0 c.loop-i.i c.loop-i.invariant.2 inside) ∙ sym c.get.ensures ∙ c.in-Some.is in
-    sunk_more stored_adds g.L.Sink.adds c.args.rows.now c.loop-i.rows c.spread-one.new.rows c.args.lines.now c.loop-i.lines c.spread-one.new.lines _ _ _
+    sunk_more stored_adds g.L.Sink.adds c.args.rows.now c.loop-i.rows c.spread_one.new.rows c.args.lines.now c.loop-i.lines c.spread_one.new.lines _ _ _
     (λ born born' ripe ripe' old new a e ready alive.
     subst (λ ps. Spread g.K.Kind a e ps (born ++ born') (ripe ++ ripe')) (sym (take_here g.K.Kind rows c.loop-i.i c.in-Some.row inside here (g.K.Kind.value c.args.arrival.now.stamp) row_of))
     (spread_more g.K.Kind a e (map row_of (take c.loop-i.i rows)) (row_of c.in-Some.row) born born' ripe ripe' (old a e ready alive)
     (new a e ready (subst (Alive g.K.Kind a e) (found_at rows c.loop-i.i c.in-Some.row inside here) (All-get_or (Alive g.K.Kind a e) rows c.loop-i.i c.in-Some.row inside alive)))))
-    c.loop-i.invariant c.spread-one.ensures
+    c.loop-i.invariant c.spread_one.ensures
 
 pub returns-after-loop-i : goal.returns-after-loop-i
 returns-after-loop-i g c =
@@ -33,5 +33,5 @@ returns-after-loop-i g c =
     sunk_as stored_adds g.L.Sink.adds c.args.rows.now c.loop-i.rows c.args.lines.now c.loop-i.lines _ _
     (λ born ripe old a e ready alive. subst (λ rs. Spread g.K.Kind a e (map row_of rs) born ripe) (take_all c.loop-i.i rows (omega arith)) (old a e ready alive)) c.loop-i.invariant
 
-pub returns-in-default : goal.returns-in-default
-returns-in-default g c = ?
+pub returns-in_default : goal.returns-in_default
+returns-in_default g c = ?

@@ -10,7 +10,7 @@ loop-slot-init g c = sunk_none g.R.Sink.adds g.L.Sink.adds c.args.rows.now c.arg
     (λ a e ready loaded. begun_none g.K.Kind a e _ (λ r (low, high) b. omega arith))
 
 pub loop-slot-preserved : goal.loop-slot-preserved
-loop-slot-preserved g c = sunk_more g.R.Sink.adds g.L.Sink.adds c.args.rows.now c.loop-slot.rows c.spread-slot.new.rows c.args.lines.now c.loop-slot.lines c.spread-slot.new.lines _ _ _
+loop-slot-preserved g c = sunk_more g.R.Sink.adds g.L.Sink.adds c.args.rows.now c.loop-slot.rows c.spread_slot.new.rows c.args.lines.now c.loop-slot.lines c.spread_slot.new.lines _ _ _
     (λ born born' ripe ripe' p q a e ready loaded.
     begun_join g.K.Kind a e _ _ _
     (λ r (low, high) s. omega arith)
@@ -19,7 +19,7 @@ loop-slot-preserved g c = sunk_more g.R.Sink.adds g.L.Sink.adds c.args.rows.now 
       ⊎_elim (λ (low, high). (low, omega arith)) (λ s. let first = c.loop-slot.auto.slot in (omega arith, omega arith)),
     ))
     born born' ripe ripe' (p a e ready loaded) (q a e ready loaded))
-    c.loop-slot.invariant c.spread-slot.ensures
+    c.loop-slot.invariant c.spread_slot.ensures
 
 pub returns : goal.returns
 returns g c = sunk_as g.R.Sink.adds g.L.Sink.adds c.args.rows.now c.loop-slot.rows c.args.lines.now c.loop-slot.lines _ _

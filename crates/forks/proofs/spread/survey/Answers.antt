@@ -13,18 +13,18 @@ loop-i-preserved g c =
     let inside : c.loop-i.i < length (held c.args.rows.now) = omega arith in (
       omega (arith, c.loop-i.invariant.0),
       survey_stays g.K.Kind g.R.Sink.adds g.L.Sink.adds (held c.args.rows.now) c.args.entries.now c.args.wanted.now c.args.arrival.now c.loop-i.i c.loop-i.stay c.args.born.now c.loop-i.born c.args.lines.now c.loop-i.lines c.loop-i.invariant.1
-          c.in-Some.row inside (sym c.get.ensures ∙ c.in-Some.is) c.spread-one.new.rows c.spread-one.new.lines
-          (subst (EndsAt g.K.Kind c.in-Some.row (g.K.Kind.value c.args.arrival.now.stamp)) c.in-None.is c.ending.ensures) c.spread-one.ensures,
+          c.in-Some.row inside (sym c.get.ensures ∙ c.in-Some.is) c.spread_one.new.rows c.spread_one.new.lines
+          (subst (EndsAt g.K.Kind c.in-Some.row (g.K.Kind.value c.args.arrival.now.stamp)) c.in-None.is c.ending.ensures) c.spread_one.ensures,
     )
 
-pub loop-i-preserved-in-default-ending : goal.loop-i-preserved-in-default-ending
-loop-i-preserved-in-default-ending g c =
+pub loop-i-preserved-in_default-ending : goal.loop-i-preserved-in_default-ending
+loop-i-preserved-in_default-ending g c =
     let inside : c.loop-i.i < length (held c.args.rows.now) = omega arith in (
       omega (arith, c.loop-i.invariant.0),
       survey_ends g.K.Kind g.R.Sink.adds g.L.Sink.adds (held c.args.rows.now) c.args.entries.now c.args.wanted.now c.args.arrival.now c.loop-i.i c.loop-i.stay c.args.born.now c.loop-i.born c.args.lines.now c.loop-i.lines c.loop-i.invariant.1
-          c.in-Some.row inside (sym c.get.ensures ∙ c.in-Some.is) c.ending.result c.in-default-ending.not-None c.ending.ensures,
+          c.in-Some.row inside (sym c.get.ensures ∙ c.in-Some.is) c.ending.result c.in_default-ending.not-None c.ending.ensures,
     )
 
-pub returns-in-default : goal.returns-in-default
-returns-in-default g c = survey_all g.K.Kind g.R.Sink.adds g.L.Sink.adds (held c.args.rows.now) c.args.entries.now c.args.wanted.now c.args.arrival.now c.loop-i.i c.loop-i.stay c.args.born.now c.loop-i.born c.args.lines.now c.loop-i.lines
-    (past_end (held c.args.rows.now) c.loop-i.i (sym c.get.ensures ∙ c.in-default.is)) c.loop-i.invariant.1
+pub returns-in_default : goal.returns-in_default
+returns-in_default g c = survey_all g.K.Kind g.R.Sink.adds g.L.Sink.adds (held c.args.rows.now) c.args.entries.now c.args.wanted.now c.args.arrival.now c.loop-i.i c.loop-i.stay c.args.born.now c.loop-i.born c.args.lines.now c.loop-i.lines
+    (past_end (held c.args.rows.now) c.loop-i.i (sym c.get.ensures ∙ c.in_default.is)) c.loop-i.invariant.1

@@ -6,4 +6,4 @@ use Rattle.kinds.proofs.fields.write_long.Goals as goal
 pub returns : goal.returns
 returns c =
     let back = to_z-of_z w64 c.args.z c.ranges.z in
-    record { place = rw back at c.put-number.ensures.place; after = rw back at c.put-number.ensures.after; read_back = tick_back c.args.z c.ranges.z.sfits }
+    record { place = rw back at c.put_number.ensures.place; after = rw back at c.put_number.ensures.after; read_back = tick_back c.args.z c.ranges.z.sfits }

@@ -11,5 +11,5 @@ returns g c =
     let e = g.A.Source.ending m c.args.a.now in
     let ys = g.B.Source.waiting m c.args.b.now in
     let f = g.B.Source.ending m c.args.b.now in
-    let same : turn m.group.leq (first xs e) (first ys f) ≡ c.whose-turn.result = cc in
+    let same : turn m.group.leq (first xs e) (first ys f) ≡ c.whose_turn.result = cc in
     subst (Turns m.group.leq xs e ys f) same (turn_turns m.group.leq xs e ys f)

@@ -16,7 +16,7 @@ loop-i-preserved g c =
     let i<n : i < n = omega arith in
     let Goal = Rounding m.group m.value m.weight n k (i + 1) t in
     elim c.if-i-k.branch [
-      | then-i-k w ↦ subst Goal (sym w.table-is) (rounding_more m.group m.value m.weight n k i n≤8 k<n i<n t c.loop-i.table w.relax-row.new.table c.loop-i.invariant w.if-i-k.true w.relax-row.ensures)
+      | then-i-k w ↦ subst Goal (sym w.table-is) (rounding_more m.group m.value m.weight n k i n≤8 k<n i<n t c.loop-i.table w.relax_row.new.table c.loop-i.invariant w.if-i-k.true w.relax_row.ensures)
       | else-i-k w ↦ subst Goal (sym w.table-is) (rounding_skip m.group m.value m.weight n k i n≤8 k<n i<n t c.loop-i.table t c.loop-i.invariant w.if-i-k.false)
     ]
 

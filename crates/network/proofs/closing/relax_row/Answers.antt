@@ -5,7 +5,7 @@ use Rattle.network.specs.Steps.{Relaxed}
 use Rattle.network.specs.Tables.{entry}
 use Rattle.network.proofs.Lowering.{from_k, relaxed_skip, relaxed_more}
 use Rattle.network.proofs.closing.relax_row.Goals as goal
-use Rattle.network.proofs.closing.relax_row.Goals.{in-Some, in-default}
+use Rattle.network.proofs.closing.relax_row.Goals.{in-Some, in_default}
 
 pub loop-j-preserved : goal.loop-j-preserved
 loop-j-preserved g c =
@@ -25,10 +25,10 @@ loop-j-preserved g c =
           subst (Relaxed m.group m.value m.weight i k (j + 1) t) (sym w.table-is)
           (relaxed_more m.group m.value m.weight i k i<8 k<8 c.requires.1.1 j j<8 t u c.loop-j.invariant w.in-Some.way w.lower.new.table w.lower.ensures
           (w.in-Some.ensures.exact w.in-Some.way refl ∙ ap (λ b. join m.group b (entry m.value u k j)) to ∙ ap (join m.group (entry m.value t i k)) on))
-      | in-default w ↦
+      | in_default w ↦
           subst (Relaxed m.group m.value m.weight i k (j + 1) t) (sym w.table-is)
           (relaxed_skip m.group m.value m.weight i k i<8 k<8 c.requires.1.1 j j<8 t u c.loop-j.invariant
-          (λ light. false≢true (w.in-default.ensures.present
+          (λ light. false≢true (w.in_default.ensures.present
           (subst (λ b. weighs m.weight b + weighs m.weight (entry m.value u k j) ≤ 16777216) (sym to)
           (subst (λ b. weighs m.weight (entry m.value t i k) + weighs m.weight b ≤ 16777216) (sym on) light)))))
     ]

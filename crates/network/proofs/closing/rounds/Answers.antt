@@ -3,13 +3,13 @@ use Rattle.network.specs.Steps.{Running}
 use Rattle.network.proofs.Turns.{running_more, ran_below, ran_all}
 use Rattle.network.proofs.closing.rounds.Goals as goal
 
-pub returns-then-not-is-settled : goal.returns-then-not-is-settled
-returns-then-not-is-settled g c =
+pub returns-then-not-is_settled : goal.returns-then-not-is_settled
+returns-then-not-is_settled g c =
     let m = g.K.Kind in
     let n≤8 : c.args.width ≤ 8 = omega arith in
     let k<n : c.loop-k.k < c.args.width = omega arith in
     ran_below m.group m.value m.weight m.weighed c.args.width n≤8 c.loop-k.k k<n c.args.table.now c.loop-k.table c.loop-k.table c.loop-k.invariant
-    (sym c.is-settled.ensures ∙ c.if-not-is-settled.true)
+    (sym c.is_settled.ensures ∙ c.if-not-is_settled.true)
 
 pub loop-k-preserved : goal.loop-k-preserved
 loop-k-preserved g c =
@@ -17,7 +17,7 @@ loop-k-preserved g c =
     let n≤8 : c.args.width ≤ 8 = omega arith in
     let k<n : c.loop-k.k < c.args.width = omega arith in
     running_more m.group m.value m.weight m.weighed c.args.width n≤8 c.loop-k.k k<n c.args.table.now c.loop-k.table c.relax.new.table c.loop-k.invariant
-    (sym c.is-settled.ensures ∙ c.if-not-is-settled.false) c.relax.ensures
+    (sym c.is_settled.ensures ∙ c.if-not-is_settled.false) c.relax.ensures
 
 pub returns : goal.returns
 returns g c =

@@ -3,8 +3,8 @@ use Rattle.queue.proofs.Bags.{first_none_at, first_some_at, first_leads}
 use Rattle.queue.proofs.Fronts.{held_at}
 use Rattle.queue.proofs.front.front_at.Goals as goal
 
-pub returns-then-front-len-i : goal.returns-then-front-len-i
-returns-then-front-len-i g c =
+pub returns-then-front_len-i : goal.returns-then-front_len-i
+returns-then-front_len-i g c =
     let xs = take c.args.len c.args.items.now in
     record { element = first_none_at c.args.i xs (omega arith); inside = omega arith; leads = λ is was. first_leads g.T.Ranked.leq g.T.Ranked.ranks xs _ is was }
 

@@ -20,14 +20,14 @@ returns g c =
     let leq = g.T.Ranked.leq in
     let n = c.args.len in
     let ms = c.args.items.now in
-    let ws = c.sift-up.new.items in
-    let k = c.front-len-count.result - 0 in
+    let ws = c.sift_up.new.items in
+    let k = c.front_len-count.result - 0 in
     let count : k ≡ length (take n ms) = omega arith in
     let inside : k ≤ length ms = omega arith in
-    let long = c.sift-up.auto.items in
+    let long = c.sift_up.auto.items in
     let after = sym (front_written k ms ws long inside n count) in
     let rises : (xs : List g.row.T.Denot) (x : g.row.T.Denot) → take n ms ≡ xs ++ (x ∷ []) → IsPermutation (x ∷ xs) ws × (Heaped leq xs → Heaped leq ws) = λ xs x is.
-    pushed leq xs (take k ms) ws x (front k n ms count ∙ is) c.sift-up.ensures.shuffled c.sift-up.ensures.heaped in
+    pushed leq xs (take k ms) ws x (front k n ms count ∙ is) c.sift_up.ensures.shuffled c.sift_up.ensures.heaped in
     record {
       shuffled = λ xs x is. subst (IsPermutation (x ∷ xs)) after (rises xs x is).0;
       heaped = λ xs x is was. subst (Heaped leq) after ((rises xs x is).1 was);

@@ -11,18 +11,18 @@ returns g c =
     let count = c.args.len in
     let k = count - 0 in
     let ms = c.args.items.now in
-    let ws = c.remove-first.new.items in
+    let ws = c.remove_first.new.items in
     let inside : k ≤ length ms = omega arith in
-    let long = c.remove-first.auto.items in
+    let long = c.remove_first.auto.items in
     let counts : count - 1 ≡ length (take k ms) - 1 = omega (arith, length-take-le k ms inside) in
     let after : take (count - 1) (written k ms ws) ≡ take (length (take k ms) - 1) ws = take_written k ms ws long inside (count - 1) (omega arith) ∙ ap (λ j. take j ws) counts in
     record {
       shuffled = λ n x is leading.
           let part : take k ms ≡ take n ms = front k n ms (omega arith) in
-          let taken = c.remove-first.ensures.shuffled x (leading ∙ ap first (sym part)) in
+          let taken = c.remove_first.ensures.shuffled x (leading ∙ ap first (sym part)) in
           subst (λ ys. IsPermutation (take n ms) (x ∷ ys)) (sym after) (subst (λ xs. IsPermutation xs (x ∷ take (length (take k ms) - 1) ws)) part taken);
       heaped = λ n is was.
           let part : take k ms ≡ take n ms = front k n ms (omega arith) in
-          subst (Heaped leq) (sym after) (c.remove-first.ensures.heaped (subst (Heaped leq) (sym part) was));
+          subst (Heaped leq) (sym after) (c.remove_first.ensures.heaped (subst (Heaped leq) (sym part) was));
       memory = length_written k ms ws long inside;
     }

@@ -11,19 +11,19 @@ loop-place-preserved g c =
     let m = g.T.Ranked in
     let l = c.loop-place in
     let s = c.swap.ensures in
-    let child = c.foremost-child-child in
+    let child = c.foremost_child-child in
     sunk_more m.leq m.ranks c.args.root l.place child.result l.items child.ensures c.swap.new.self
     (swapped l.items c.swap.new.self l.place child.result s.permutation s.by_index.0 s.by_index.1 s.by_index.2)
-    c.in-order.ensures c.if-in-order.false l.invariant.above c.args.items.now s.permutation l.invariant
+    c.in_order.ensures c.if-in_order.false l.invariant.above c.args.items.now s.permutation l.invariant
 
-pub returns-then-in-order : goal.returns-then-in-order
-returns-then-in-order g c =
+pub returns-then-in_order : goal.returns-then-in_order
+returns-then-in_order g c =
     let m = g.T.Ranked in
     let l = c.loop-place in
-    let child = c.foremost-child-child in
+    let child = c.foremost_child-child in
     record {
       shuffled = l.invariant.shuffled;
-      heaped = λ h. in_place m.leq m.ranks c.args.root l.place child.result l.items child.ensures c.in-order.ensures c.if-in-order.true (l.invariant.sinking h);
+      heaped = λ h. in_place m.leq m.ranks c.args.root l.place child.result l.items child.ensures c.in_order.ensures c.if-in_order.true (l.invariant.sinking h);
     }
 
 pub returns : goal.returns

@@ -13,15 +13,15 @@ loop-place-preserved g c =
     let s = c.swap.ensures in
     risen_more m.leq l.place l.items (omega arith) m.ranks c.swap.new.self l.invariant.within
     (swapped l.items c.swap.new.self _ l.place s.permutation s.by_index.0 s.by_index.1 s.by_index.2)
-    c.in-order.ensures c.if-in-order.false c.args.items.now s.permutation l.invariant
+    c.in_order.ensures c.if-in_order.false c.args.items.now s.permutation l.invariant
 
-pub returns-then-in-order : goal.returns-then-in-order
-returns-then-in-order g c =
+pub returns-then-in_order : goal.returns-then-in_order
+returns-then-in_order g c =
     let m = g.T.Ranked in
     let l = c.loop-place in
     record {
       shuffled = l.invariant.shuffled;
-      heaped = λ r. in_place m.leq l.place l.items (omega arith) c.in-order.ensures c.if-in-order.true (l.invariant.rising r);
+      heaped = λ r. in_place m.leq l.place l.items (omega arith) c.in_order.ensures c.if-in_order.true (l.invariant.rising r);
     }
 
 pub returns : goal.returns

@@ -9,6 +9,6 @@ returns c =
     let small : n < 2 ^ 32 = omega arith in
     let is = to_z_pos w64 n (omega arith) in
     record {
-      text = field_text c.args.buffer.now c.args.start n small c.requires (to_z w64 n) is c.put-number-end.result c.put-number-end.ensures.place c.unwrap-or.result c.unwrap-or.ensures c.put-number-end.new.out c.put-number-end.ensures.after;
-      short = field_short c.args.buffer.now c.args.start n small c.requires (to_z w64 n) is c.put-number-end.result c.put-number-end.ensures.place c.unwrap-or.result c.unwrap-or.ensures;
+      text = field_text c.args.buffer.now c.args.start n small c.requires (to_z w64 n) is c.put_number-end.result c.put_number-end.ensures.place c.unwrap_or.result c.unwrap_or.ensures c.put_number-end.new.out c.put_number-end.ensures.after;
+      short = field_short c.args.buffer.now c.args.start n small c.requires (to_z w64 n) is c.put_number-end.result c.put_number-end.ensures.place c.unwrap_or.result c.unwrap_or.ensures;
     }

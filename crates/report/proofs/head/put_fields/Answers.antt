@@ -8,7 +8,7 @@ use Rattle.report.proofs.head.put_fields.Goals as goal
 pub loop-n-preserved : goal.loop-n-preserved
 loop-n-preserved c = (
   omega arith,
-  fields_more (take c.args.start c.args.buffer.now) c.args.numbers.now (take c.loop-n.end c.loop-n.buffer) _ c.loop-n.n-index (omega arith) c.loop-n.invariant.1 c.put-field-end.ensures.text,
+  fields_more (take c.args.start c.args.buffer.now) c.args.numbers.now (take c.loop-n.end c.loop-n.buffer) _ c.loop-n.n-index (omega arith) c.loop-n.invariant.1 c.put_field-end.ensures.text,
 )
 
 pub returns : goal.returns

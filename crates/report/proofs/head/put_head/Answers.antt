@@ -9,7 +9,7 @@ returns c =
     record {
       text = head_is c.args.letter c.args.slot c.args.choice.now _ _ _ _
           (take_more_set c.args.buffer.now 0 c.byte.result (omega arith) ∙ ap (λ b. b ∷ []) c.byte.ensures)
-          c.put-field-choice-start.ensures.text c.put-fields-last.ensures.text
-          (take_more_set c.put-fields-last.new.buffer c.put-fields-last.result 9 (omega arith));
+          c.put_field-choice_start.ensures.text c.put_fields-last.ensures.text
+          (take_more_set c.put_fields-last.new.buffer c.put_fields-last.result 9 (omega arith));
       short = omega arith;
     }

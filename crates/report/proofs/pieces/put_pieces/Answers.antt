@@ -13,13 +13,13 @@ returns-then-head-len g c =
       after = nothing out head stamp start (omega (arith, text_length out head stamp start));
     }
 
-pub returns-in-err-end : goal.returns-in-err-end
-returns-in-err-end g c =
+pub returns-in_err-end : goal.returns-in_err-end
+returns-in_err-end g c =
     let out = c.args.out.now in
     let head = c.args.head.now in
     let stamp = g.K.Kind.written c.args.stamp.now in
     let start = c.args.start in
-    let told = c.in-err-end.ensures in
+    let told = c.in_err-end.ensures in
     let k = length out - 1 - 0 in
     let last : k + 1 ≡ length out = omega arith in
     let short = too_short out head stamp start k last c.write.new.out told.after told.place in
@@ -34,10 +34,10 @@ returns g c =
     let head = c.args.head.now in
     let stamp = g.K.Kind.written c.args.stamp.now in
     let start = c.args.start in
-    let told = c.in-ok-end.ensures in
+    let told = c.in_ok-end.ensures in
     let k = length out - 1 - 0 in
     let last : k + 1 ≡ length out = omega arith in
     record {
-      place = somewhere out head stamp start k last c.write.new.out told.after c.in-ok-end.end told.place;
-      after = all_there out head stamp start k last c.write.new.out told.after c.in-ok-end.end told.place c.put.new.out c.put.ensures.after;
+      place = somewhere out head stamp start k last c.write.new.out told.after c.in_ok-end.end told.place;
+      after = all_there out head stamp start k last c.write.new.out told.after c.in_ok-end.end told.place c.put.new.out c.put.ensures.after;
     }

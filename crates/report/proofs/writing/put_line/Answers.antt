@@ -8,11 +8,11 @@ returns g c =
     let out = c.args.out.now in
     let start = c.args.start in
     let behind = g.K.Kind.written c.args.stamp.now ++ (10 ∷ []) in
-    let end = c.put-head-end.result in
-    let buffer = c.put-head-end.new.buffer in
+    let end = c.put_head-end.result in
+    let buffer = c.put_head-end.new.buffer in
     let whole : end - 0 ≡ end = omega arith in
-    let head : take (end - 0) buffer ≡ head_text c.args.letter c.args.slot c.args.events.now = ap (λ n. take n buffer) whole ∙ c.put-head-end.ensures.text in
+    let head : take (end - 0) buffer ≡ head_text c.args.letter c.args.slot c.args.events.now = ap (λ n. take n buffer) whole ∙ c.put_head-end.ensures.text in
     record {
-      place = c.put-pieces.ensures.place ∙ ap (λ h. place_after out start (h ++ behind)) head;
-      after = c.put-pieces.ensures.after ∙ ap (λ h. pasted out start (h ++ behind)) head;
+      place = c.put_pieces.ensures.place ∙ ap (λ h. place_after out start (h ++ behind)) head;
+      after = c.put_pieces.ensures.after ∙ ap (λ h. pasted out start (h ++ behind)) head;
     }

@@ -10,5 +10,5 @@ returns g c l k t closed by held due =
     let m = g.K.Kind in
     let x = m.value c.args.moment.now in
     let end = meant m.value c.args.deadline.now in
-    let tested : c.at-most.result ≡ at_most m.group (At x) end = search rules in
+    let tested : c.at_most.result ≡ at_most m.group (At x) end = search rules in
     subst (λ r. Decides r (HeldIn m.group l (Some x) k)) (sym tested) (stays_held_lem m.group l k t closed by held x end due)

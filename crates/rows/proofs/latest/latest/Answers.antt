@@ -20,10 +20,10 @@ loop-i-preserved g c loading k row by q =
     let table = c.args.table.now in
     let j = c.args.j in
     let i = c.loop-i.i in
-    let after = meant m.value c.latest-by-after.result in
+    let after = meant m.value c.latest_by-after.result in
     let f : is_in bits i ≡ true = sym c.has.ensures ∙ c.if-not-has.false in
     among_more m.group (λ i. is_in bits i ≡ true) (Sum m.group m.value stamps table j) i (meant m.value c.loop-i.least) (c.loop-i.invariant loading k row by q)
-    f after (meant m.value c.lesser-least.result) (sum_here m.group m.value stamps table m.weight loading k bits c.args.width row by j q i c.loop-i-test.true f after c.latest-by-after.ensures)
+    f after (meant m.value c.lesser-least.result) (sum_here m.group m.value stamps table m.weight loading k bits c.args.width row by j q i c.loop-i-test.true f after c.latest_by-after.ensures)
     c.lesser-least.ensures
 
 pub returns : goal.returns

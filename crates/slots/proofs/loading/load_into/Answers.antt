@@ -8,29 +8,29 @@ use Rattle.slots.specs.Loads.{slot_table}
 use Rattle.slots.proofs.Answered.{load_refused, load_accepted}
 use Rattle.slots.proofs.loading.load_into.Goals as goal
 
-pub returns-in-err-definition : goal.returns-in-err-definition
-returns-in-err-definition g c =
+pub returns-in_err-definition : goal.returns-in_err-definition
+returns-in_err-definition g c =
     let m = g.K.Kind in
     let text = c.args.text.now in
-    let s = c.in-ok-slot.slot in
-    let told = c.in-err-definition.ensures in
-    let f = c.in-err-definition.field-0.0 in
-    let new = c.read-into.new.entries in
-    let p = err_from_is_err_and c.from-residual-in-err-definition.result c.from-residual-in-err-definition.ensures.1 in
-    let opened = subst (λ l. Opened l (reading_of m.fields m.means m.bound l text) s) c.loaded-loaded.ensures c.in-ok-slot.ensures in
+    let s = c.in_ok-slot.slot in
+    let told = c.in_err-definition.ensures in
+    let f = c.in_err-definition.field-0.0 in
+    let new = c.read_into.new.entries in
+    let p = err_from_is_err_and c.from-residual-in_err-definition.result c.from-residual-in_err-definition.ensures.1 in
+    let opened = subst (λ l. Opened l (reading_of m.fields m.means m.bound l text) s) c.loaded-loaded.ensures c.in_ok-slot.ensures in
     let read = subst (λ l. Loads m.group m.value m.weight (reading_of m.fields m.means m.bound l text) (slot_table s new) (Err f)) c.loaded-loaded.ensures told.reads in
-    let room : 512 ≤ length c.args.entries.now = leb-true 512 _ (sym c.has-room.ensures ∙ c.if-not-has-room.false) in
+    let room : 512 ≤ length c.args.entries.now = leb-true 512 _ (sym c.has_room.ensures ∙ c.if-not-has_room.false) in
     rw (p.1, p.2) (load_refused m text c.args.slots.now c.args.entries.now new room s opened told.others told.memory f read)
 
 pub returns : goal.returns
 returns g c =
     let m = g.K.Kind in
     let text = c.args.text.now in
-    let s = c.in-ok-slot.slot in
-    let told = c.in-ok-definition.ensures in
-    let x = c.in-ok-definition.definition in
-    let new = c.read-into.new.entries in
-    let opened = subst (λ l. Opened l (reading_of m.fields m.means m.bound l text) s) c.loaded-loaded.ensures c.in-ok-slot.ensures in
+    let s = c.in_ok-slot.slot in
+    let told = c.in_ok-definition.ensures in
+    let x = c.in_ok-definition.definition in
+    let new = c.read_into.new.entries in
+    let opened = subst (λ l. Opened l (reading_of m.fields m.means m.bound l text) s) c.loaded-loaded.ensures c.in_ok-slot.ensures in
     let read = subst (λ l. Loads m.group m.value m.weight (reading_of m.fields m.means m.bound l text) (slot_table s new) (Ok x)) c.loaded-loaded.ensures told.reads in
-    let room : 512 ≤ length c.args.entries.now = leb-true 512 _ (sym c.has-room.ensures ∙ c.if-not-has-room.false) in
+    let room : 512 ≤ length c.args.entries.now = leb-true 512 _ (sym c.has_room.ensures ∙ c.if-not-has_room.false) in
     load_accepted m text c.args.slots.now c.args.entries.now new room s opened told.others told.memory c.fill.new.self x read told.within.0 told.within.1 c.fill.ensures

@@ -8,7 +8,7 @@ pub returns : goal.returns
 returns g c =
     let m = g.K.Kind in
     let s = c.args.slot in
-    let start = c.table-start-start.result in
+    let start = c.table_start-start.result in
     let k = (start + 64) - start in
     let xs = c.args.entries.now in
     let ys = c.read.new.table in
@@ -19,7 +19,7 @@ returns g c =
     record {
       within = c.read.ensures.within;
       reads = subst (λ t. Loads m.group m.value m.weight (reading_of m.fields m.means m.bound c.args.loaded.now c.args.text.now) t c.read.result)
-          (sym (part_written s start k xs ys c.table-start-start.ensures whole c.requires.0 room long)) (when_long _ _ (length (take k (drop start xs))) (omega (arith, part)) c.read.ensures.loads);
-      others = others_kept s start k xs ys c.table-start-start.ensures whole c.requires.0 room long;
-      memory = memory_kept s start k xs ys c.table-start-start.ensures whole c.requires.0 room long;
+          (sym (part_written s start k xs ys c.table_start-start.ensures whole c.requires.0 room long)) (when_long _ _ (length (take k (drop start xs))) (omega (arith, part)) c.read.ensures.loads);
+      others = others_kept s start k xs ys c.table_start-start.ensures whole c.requires.0 room long;
+      memory = memory_kept s start k xs ys c.table_start-start.ensures whole c.requires.0 room long;
     }

@@ -9,15 +9,15 @@ pub returns-then-end-text : goal.returns-then-end-text
 returns-then-end-text c =
     line-open c.args.number c.args.text.now (omega arith) (omega arith) ∙ ap Err (sym c.fault-then-end-text.ensures)
 
-pub returns-else-is-short : goal.returns-else-is-short
-returns-else-is-short c =
+pub returns-else-is_short : goal.returns-else-is_short
+returns-else-is_short c =
     line-ended c.args.number c.args.text.now c.find-end.result c.find-end.ensures.place (omega arith)
-    false c.if-is-short.ensures
-    ∙ ap Err (sym c.fault-else-is-short.ensures)
+    false c.if-is_short.ensures
+    ∙ ap Err (sym c.fault-else-is_short.ensures)
 
-pub returns-then-is-short : goal.returns-then-is-short
-returns-then-is-short c =
+pub returns-then-is_short : goal.returns-then-is_short
+returns-then-is_short c =
     let e : c.find-end.result ≡ c.find-end.result - 0 = omega arith in
     line-ended c.args.number c.args.text.now c.find-end.result c.find-end.ensures.place (omega arith)
-    true c.if-is-short.ensures
+    true c.if-is_short.ensures
     ∙ ap (λ n. Ok (take n c.args.text.now)) e

@@ -7,7 +7,7 @@ use Rattle.text.proofs.number.any_sign.Goals as goal
 
 pub returns-then-field-eq45 : goal.returns-then-field-eq45
 returns-then-field-eq45 c =
-    c.as-negative.ensures
+    c.as_negative.ensures
     ∙ ap negative (c.unsigned.ensures ∙ ap (λ t. capped (natural t)) (take_rest c.args.field.now 1))
     ∙ capped-negative (natural (drop 1 c.args.field.now))
     ∙ ap (within (negsuc (2 ^ 63 - 1)) (pos (2 ^ 63))) (sym (whole_minus c.args.field.now c.if-field-eq45.true))

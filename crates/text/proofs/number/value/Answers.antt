@@ -4,8 +4,8 @@ use Rattle.text.specs.Sizes.{sized}
 use Rattle.text.proofs.Wholes.{digit_within, read_more, read_none, read_on_grows, sized-within, sized_past}
 use Rattle.text.proofs.number.value.Goals as goal
 
-pub overflow-sub-n : goal.overflow-sub-n
-overflow-sub-n c = omega (arith, (digit_within c.args.digits.now c.loop-x.x-index c.requires (omega arith)).0)
+pub overflow_sub-n : goal.overflow_sub-n
+overflow_sub-n c = omega (arith, (digit_within c.args.digits.now c.loop-x.x-index c.requires (omega arith)).0)
 
 pub returns-then-n-gt-LARGEST : goal.returns-then-n-gt-LARGEST
 returns-then-n-gt-LARGEST c =

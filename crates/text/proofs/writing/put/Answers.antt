@@ -7,5 +7,5 @@ returns c =
     let h : c.args.start + length c.args.bytes.now ≤ length c.args.out.now = omega arith in
     record {
       place = place_fits c.args.out.now c.args.bytes.now c.args.start h;
-      after = pasted-fits c.args.out.now c.args.bytes.now c.args.start h _ _ c.copy-from-slice.ensures.after (omega arith);
+      after = pasted-fits c.args.out.now c.args.bytes.now c.args.start h _ _ c.copy_from_slice.ensures.after (omega arith);
     }

@@ -6,7 +6,7 @@ pub returns : goal.returns
 returns c =
     record {
       written =
-          minus-written c.put-digits-first.new.buffer c.put-digits-first.result c.unsigned-abs.result c.args.z
-          (omega arith) (omega arith) c.put-digits-first.ensures.digits c.ranges.z c.if-z-ge0.false c.unsigned-abs.ensures.value;
+          minus-written c.put_digits-first.new.buffer c.put_digits-first.result c.unsigned_abs.result c.args.z
+          (omega arith) (omega arith) c.put_digits-first.ensures.digits c.ranges.z c.if-z-ge0.false c.unsigned_abs.ensures.value;
       inside = omega arith;
     }

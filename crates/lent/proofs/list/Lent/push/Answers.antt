@@ -8,4 +8,4 @@ returns g c =
     let n = c.args.self.now.len in
     let k = c.len-len.result in
     let x = c.args.item in
-    (omega arith, ap (take (k + 1)) c.put-at.ensures ∙ front_push k n ms x c.len-len.ensures.count (omega arith), c.put-at.ensures ∙ ap (λ i. set ms i x) c.len-len.ensures.count)
+    (omega arith, ap (take (k + 1)) c.put_at.ensures ∙ front_push k n ms x c.len-len.ensures.count (omega arith), c.put_at.ensures ∙ ap (λ i. set ms i x) c.len-len.ensures.count)

@@ -3,7 +3,7 @@ use lib.Seq.{take-set-lt}
 use Rattle.std.proofs.lemmas.List.{length-take}
 use Rattle.lent.proofs.list.Lent.replace.Goals as goal
 
-pub put-at-requires : goal.put-at-requires
+pub put-at-requires : goal.put_at-requires
 put-at-requires g c = omega (arith, length-take c.args.self.now.len c.args.self.now.items.now)
 
 pub returns : goal.returns
@@ -13,7 +13,7 @@ returns g c =
     let i = c.args.i in
     let inside : i < n = omega (arith, length-take n ms) in
     record {
-      held_is = ap (take n) c.put-at.ensures ∙ take-set-lt n ms i c.args.item inside;
-      within = λ _. c.put-at.ensures;
+      held_is = ap (take n) c.put_at.ensures ∙ take-set-lt n ms i c.args.item inside;
+      within = λ _. c.put_at.ensures;
       beyond = λ past. absurd (omega arith);
     }

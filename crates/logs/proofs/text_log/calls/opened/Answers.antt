@@ -5,7 +5,7 @@ use Rattle.logs.proofs.text_log.calls.opened.Goals as goal
 pub returns : goal.returns
 returns g c =
     let m = g.K.Kind in
-    let read = c.read-ahead-ahead.ensures in
+    let read = c.read_ahead-ahead.ensures in
     record {
       waiting = read.waiting;
       ending = read.ending;

@@ -3,11 +3,11 @@ use Rattle.rows.proofs.Bits.{bit_read, none_beyond}
 use Rattle.std.proofs.lemmas.Bool.{le-ltb}
 use Rattle.rows.proofs.filled.Filled.has.Goals as goal
 
-pub returns-then-i-lt-MOST-VARIABLES : goal.returns-then-i-lt-MOST-VARIABLES
-returns-then-i-lt-MOST-VARIABLES c = search (rules, bit_read)
+pub returns-then-i-lt-MOST_VARIABLES : goal.returns-then-i-lt-MOST_VARIABLES
+returns-then-i-lt-MOST_VARIABLES c = search (rules, bit_read)
 
-pub returns-else-i-lt-MOST-VARIABLES : goal.returns-else-i-lt-MOST-VARIABLES
-returns-else-i-lt-MOST-VARIABLES c =
+pub returns-else-i-lt-MOST_VARIABLES : goal.returns-else-i-lt-MOST_VARIABLES
+returns-else-i-lt-MOST_VARIABLES c =
     let small : c.args.self.bits < 256 = omega arith in
     let far : 8 ≤ c.args.i = omega arith in
     search (rules, none_beyond, le-ltb)

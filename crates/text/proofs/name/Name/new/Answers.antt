@@ -3,10 +3,10 @@ use Rattle.text.specs.Names.{is_name}
 use Rattle.text.proofs.Spellings.{name_short, name_sized, name_kept, name_front, name_back}
 use Rattle.text.proofs.name.Name.new.Goals as goal
 
-pub invariant-of-result : goal.invariant-of-result
-invariant-of-result c =
+pub invariant_of-result : goal.invariant_of-result
+invariant_of-result c =
     let bs = c.args.bytes.now in
-    let named : is_name bs ≡ true = sym c.if-not-is-name.ensures in (
+    let named : is_name bs ≡ true = sym c.if-not-is_name.ensures in (
       name_sized bs c.padded.result named c.padded.ensures,
       (
         name_short bs c.padded.result named c.padded.ensures,
@@ -19,5 +19,5 @@ invariant-of-result c =
 
 pub returns : goal.returns
 returns c =
-    let named : is_name c.args.bytes.now ≡ true = sym c.if-not-is-name.ensures in
+    let named : is_name c.args.bytes.now ≡ true = sym c.if-not-is_name.ensures in
     (named, name_front c.args.bytes.now c.padded.result named c.padded.ensures)
