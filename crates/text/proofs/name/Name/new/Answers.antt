@@ -6,16 +6,13 @@ use Rattle.text.proofs.name.Name.new.Goals as goal
 pub invariant_of-result : goal.invariant_of-result
 invariant_of-result c =
     let bs = c.args.bytes.now in
-    let named : is_name bs ≡ true = sym c.if-not-is_name.ensures in (
-      name_sized bs c.padded.result named c.padded.ensures,
-      (
-        name_short bs c.padded.result named c.padded.ensures,
-        (
-          name_kept bs c.padded.result named c.padded.ensures,
-          (name_back bs c.padded.result named c.padded.ensures, tt),
-        ),
-      ),
-    )
+    let named : is_name bs ≡ true = sym c.if-not-is_name.ensures in
+    record {
+      sized = name_sized bs c.padded.result named c.padded.ensures;
+      fits = name_short bs c.padded.result named c.padded.ensures;
+      named = name_kept bs c.padded.result named c.padded.ensures;
+      zeros = name_back bs c.padded.result named c.padded.ensures;
+    }
 
 pub returns : goal.returns
 returns c =
