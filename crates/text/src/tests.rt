@@ -52,23 +52,32 @@ fn a_line_has_at_most_80_bytes(rt: HostRuntime) -> Result<(), Fail> {
 
 #[test]
 fn a_text_may_stop_or_break_off(rt: HostRuntime) -> Result<(), Fail> {
-    assert_eq!(rt; line_at(b"A\r\nB", 0, 1)?, b"A\r");
+    assert_eq!(rt; line_at(b"A\r\nB", 0, 1)?, b"A\r".as_slice());
     no_line(&rt, b"A\nB", 2, fault_at(Cause::BadLine, 2, 0))?;
     no_line(&rt, b"A\n", 2, fault_at(Cause::Unfinished, 2, 0))?;
     no_line(&rt, b"A\n", 9, fault_at(Cause::Unfinished, 2, 0))?;
-    assert_eq!(rt; faulty_line(b"A\nB", &fault_at(Cause::BadLine, 2, 0)), b"B");
-    assert_eq!(rt; faulty_line(b"A\nB", &fault_at(Cause::BadLine, 0, 0)), b"");
-    assert_eq!(rt; faulty_line(b"A\nB", &fault_at(Cause::BadLine, 3, 0)), b"");
+    assert_eq!(rt;
+        faulty_line(b"A\nB", &fault_at(Cause::BadLine, 2, 0)),
+        b"B".as_slice()
+    );
+    assert_eq!(rt;
+        faulty_line(b"A\nB", &fault_at(Cause::BadLine, 0, 0)),
+        b"".as_slice()
+    );
+    assert_eq!(rt;
+        faulty_line(b"A\nB", &fault_at(Cause::BadLine, 3, 0)),
+        b"".as_slice()
+    );
     Ok(())
 }
 
 #[test]
 fn fields_stand_between_tabs(rt: HostRuntime) {
     assert_eq!(rt; count(b"a\t\tb", TAB), 3);
-    assert_eq!(rt; part(b"a\t\tb", TAB, 1), b"");
-    assert_eq!(rt; part(b"a\t\tb", TAB, 2), b"b");
-    assert_eq!(rt; part(b"a\t\tb", TAB, 3), b"");
-    assert_eq!(rt; parts_from(b"a\t\tb", TAB, 1), b"\tb");
+    assert_eq!(rt; part(b"a\t\tb", TAB, 1), b"".as_slice());
+    assert_eq!(rt; part(b"a\t\tb", TAB, 2), b"b".as_slice());
+    assert_eq!(rt; part(b"a\t\tb", TAB, 3), b"".as_slice());
+    assert_eq!(rt; parts_from(b"a\t\tb", TAB, 1), b"\tb".as_slice());
 }
 
 #[test]
@@ -103,8 +112,11 @@ fn other_fields_are_no_numbers(rt: HostRuntime) {
 
 #[test]
 fn names_have_one_to_eight_capitals_or_digits(rt: HostRuntime) -> Result<(), Fail> {
-    assert_eq!(rt; Name::read(b"A", PLACE)?.as_bytes(), b"A");
-    assert_eq!(rt; Name::read(b"ABCXYZ09", PLACE)?.as_bytes(), b"ABCXYZ09");
+    assert_eq!(rt; Name::read(b"A", PLACE)?.as_bytes(), b"A".as_slice());
+    assert_eq!(rt;
+        Name::read(b"ABCXYZ09", PLACE)?.as_bytes(),
+        b"ABCXYZ09".as_slice()
+    );
     no_name(&rt, b"");
     no_name(&rt, b"ABCDEFGHI");
     no_name(&rt, b"Ab");
@@ -122,5 +134,5 @@ fn bytes_and_numbers_are_put_where_they_fit(rt: HostRuntime) {
     assert_eq!(rt; put(&mut out, usize::MAX, b"ab"), None);
     assert_eq!(rt; &out, b".-9223372036854775808.");
     assert_eq!(rt; put_number(&mut out, 0, 0), Some(1));
-    assert_eq!(rt; &out[0..2], b"0-");
+    assert_eq!(rt; &out[0..2], b"0-".as_slice());
 }
