@@ -63,14 +63,14 @@ pub fn next<K: Kind>(queue: &Heap<Due<K>>) -> Option<K>
 }
 
 fn is_before<K: Kind>(deadline: &K, moment: &K) -> bool
-    ensures { result ≡ not (group.leq (value moment.now) (value deadline.now)) }
+    ensures { result ≡ not (K.group.leq (K.value moment.now) (K.value deadline.now)) }
 {
     !moment.at_most(deadline)
 }
 
 // Whether some deadline is before the moment: the smallest is, then.
 pub fn any_before<K: Kind>(queue: &Heap<Due<K>>, moment: &K) -> bool
-    ensures { (rs : List (Row K)) → QueueHolds K.Kind rs queue.now → AnyBefore K.Kind (At (value moment.now)) rs result }
+    ensures { (rs : List (Row K)) → QueueHolds K.Kind rs queue.now → AnyBefore K.Kind (At (K.value moment.now)) rs result }
 {
     let Some(first) = top(queue) else {
         return false;

@@ -33,7 +33,7 @@ fn open<K: Kind>(
     slot: usize,
     line: usize,
 ) -> Result<(), Fault>
-    ensures { (d : Chronicle G) → Drafted group value bound draft.old table.now d → Agrees (with_slot loaded.now line d slot) (Drafted group value bound draft.new table.now) result }
+    ensures { (d : Chronicle K.G) → Drafted K.group K.value K.bound draft.old table.now d → Agrees (with_slot loaded.now line d slot) (Drafted K.group K.value K.bound draft.new table.now) result }
 {
     if is_loaded(loaded, slot) {
         return Err(Place { line, field: 2 }.fault(Cause::SlotLoaded));
@@ -48,7 +48,7 @@ fn add_variable<K: Kind>(
     name: Name,
     line: usize,
 ) -> Result<(), Fault>
-    ensures { (d : Chronicle G) → Drafted group value bound draft.old table.now d → Agrees (with_type line d (spelled name)) (Drafted group value bound draft.new table.now) result }
+    ensures { (d : Chronicle K.G) → Drafted K.group K.value K.bound draft.old table.now d → Agrees (with_type line d (spelled name)) (Drafted K.group K.value K.bound draft.new table.now) result }
 {
     if !draft.types.push(name) {
         return Err(Place { line, field: 0 }.fault(Cause::TooMany));
@@ -77,7 +77,7 @@ fn add_limit<K: Kind>(
     line: usize,
 ) -> Result<(), Fault>
     ensures kept { Beyond table.old table.new }
-    ensures adds { (d : Chronicle G) → Drafted group value bound draft.old table.old d → bound (value limit.now.most) ≡ true → Agrees (with_limit line d (limit_by value limit.now)) (Drafted group value bound draft.new table.new) result }
+    ensures adds { (d : Chronicle K.G) → Drafted K.group K.value K.bound draft.old table.old d → K.bound (K.value limit.now.most) ≡ true → Agrees (with_limit line d (limit_by K.value limit.now)) (Drafted K.group K.value K.bound draft.new table.new) result }
 {
     let place = Place { line, field: 0 };
     if !has_room(draft.limits) {
@@ -93,7 +93,7 @@ fn add_limit<K: Kind>(
 }
 
 fn end<K: Kind>(draft: &Draft, table: &[Bound<K>], line: usize) -> Result<(), Fault>
-    ensures { (d : Chronicle G) → Drafted group value bound draft.now table.now d → Agrees (ended line d) (Drafted group value bound draft.now table.now) result }
+    ensures { (d : Chronicle K.G) → Drafted K.group K.value K.bound draft.now table.now d → Agrees (ended line d) (Drafted K.group K.value K.bound draft.now table.now) result }
 {
     if draft.types.len() == 0 {
         return Err(Place { line, field: 0 }.fault(Cause::TooMany));
@@ -110,7 +110,7 @@ pub fn accept<K: Kind>(
     line: usize,
 ) -> Result<(), Fault>
     ensures kept { Beyond table.old table.new }
-    ensures adds { (d : Chronicle G) → Drafted group value bound draft.old table.old d → Admits bound (said_by value item.now) → Agrees (accepted loaded.now line d (said_by value item.now)) (Drafted group value bound draft.new table.new) result }
+    ensures adds { (d : Chronicle K.G) → Drafted K.group K.value K.bound draft.old table.old d → Admits K.bound (said_by K.value item.now) → Agrees (accepted loaded.now line d (said_by K.value item.now)) (Drafted K.group K.value K.bound draft.new table.new) result }
 {
     match item {
         Item::Opening(slot) => open(draft, table, loaded, *slot, line),

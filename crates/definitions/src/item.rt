@@ -42,7 +42,7 @@ fn read_small(line: &[u8], k: usize, place: Place) -> Result<usize, Fault>
 }
 
 fn read_opening<K: Kind>(line: &[u8], number: usize) -> Result<Item<K>, Fault>
-    ensures { Says value (valued fields means bound number Chronicle (split 9 line.now)) result }
+    ensures { Says K.value (valued K.fields K.means K.bound number Chronicle (split 9 line.now)) result }
 {
     let slot = read_small(
         line,
@@ -56,7 +56,7 @@ fn read_opening<K: Kind>(line: &[u8], number: usize) -> Result<Item<K>, Fault>
 }
 
 fn read_variable<K: Kind>(line: &[u8], number: usize) -> Result<Item<K>, Fault>
-    ensures { Says value (valued fields means bound number Var (split 9 line.now)) result }
+    ensures { Says K.value (valued K.fields K.means K.bound number Var (split 9 line.now)) result }
 {
     let name = Name::read(
         part(line, TAB, 1),
@@ -70,7 +70,7 @@ fn read_variable<K: Kind>(line: &[u8], number: usize) -> Result<Item<K>, Fault>
 
 // The element of a bound, in the fields after the first three: read, and admitted.
 fn read_most<K: Kind>(line: &[u8], place: Place) -> Result<K, Fault>
-    ensures { 3 < length (split 9 line.now) → Reads value (admitted fields means bound (means (drop 3 (split 9 line.now)))) (fault_at BadField place.line place.field) result }
+    ensures { 3 < length (split 9 line.now) → Reads K.value (admitted K.fields K.means K.bound (K.means (drop 3 (split 9 line.now)))) (fault_at BadField place.line place.field) result }
 {
     let most = K::read(parts_from(line, TAB, 3), place)?;
     if !most.is_bound() {
@@ -80,7 +80,7 @@ fn read_most<K: Kind>(line: &[u8], place: Place) -> Result<K, Fault>
 }
 
 fn read_limit<K: Kind>(line: &[u8], number: usize) -> Result<Item<K>, Fault>
-    ensures { 3 < length (split 9 line.now) → Says value (valued fields means bound number Bound (split 9 line.now)) result }
+    ensures { 3 < length (split 9 line.now) → Says K.value (valued K.fields K.means K.bound number Bound (split 9 line.now)) result }
 {
     let i = read_small(
         line,
@@ -114,7 +114,7 @@ fn read_limit<K: Kind>(line: &[u8], number: usize) -> Result<Item<K>, Fault>
 
 // Line `number` of a definition: its word, the number of its fields, then the fields from the left.
 pub fn read_item<K: Kind>(line: &[u8], number: usize) -> Result<Item<K>, Fault>
-    ensures { Says value (item_of fields means bound number (split 9 line.now)) result }
+    ensures { Says K.value (item_of K.fields K.means K.bound number (split 9 line.now)) result }
 {
     let place = Place {
         line: number,

@@ -23,7 +23,7 @@ fn if_empty(slot: usize, loaded: &Loaded) -> Result<usize, Fault>
 
 // The slot that the definition at the front of a text is for, by its first line alone.
 pub fn opening_slot<K: Kind>(text: &[u8], loaded: &Loaded) -> Result<usize, Fault>
-    ensures { Opens loaded.now (reading_of fields means bound loaded.now text.now) result }
+    ensures { Opens loaded.now (reading_of K.fields K.means K.bound loaded.now text.now) result }
 {
     let line = line_at(text, 0, 1)?;
     let item = read_item::<K>(line, 1)?;

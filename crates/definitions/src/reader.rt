@@ -41,7 +41,7 @@ pub struct Definition {
 }
 
 fn is_closing<K: Kind>(item: &Item<K>) -> bool
-    ensures { result ≡ is_closing (said_by value item.now) }
+    ensures { result ≡ is_closing (said_by K.value item.now) }
 {
     matches!(item, Item::Closing)
 }
@@ -55,7 +55,7 @@ fn read_line<K: Kind>(
     draft: &mut Draft,
     table: &mut [Bound<K>],
 ) -> Result<Step, Fault>
-    ensures step { (d : Chronicle G) → Drafted group value bound draft.old table.old d → Steps (judged fields means bound loaded.now number d (split 10 (drop used text.now))) (line_end text.now used) (Drafted group value bound draft.new table.new) result }
+    ensures step { (d : Chronicle K.G) → Drafted K.group K.value K.bound draft.old table.old d → Steps (judged K.fields K.means K.bound loaded.now number d (split 10 (drop used text.now))) (line_end text.now used) (Drafted K.group K.value K.bound draft.new table.new) result }
     ensures kept { Beyond table.old table.new }
     ensures on { IfOk result (λ s. (used < s.used) × (s.used ≤ length text.now)) }
 {
@@ -76,7 +76,7 @@ fn read_lines<K: Kind>(
 ) -> Result<Definition, Fault>
     ensures kept { Beyond table.old table.new }
     ensures within { IfOk result (λ x. (0 < x.used) × (x.used ≤ length text.now)) }
-    ensures parses { Empty group value table.old → Parses (read_from fields means bound loaded.now 1 0 blank (split 10 text.now)) (Held group value bound table.new) result }
+    ensures parses { Empty K.group K.value table.old → Parses (read_from K.fields K.means K.bound loaded.now 1 0 blank (split 10 text.now)) (Held K.group K.value K.bound table.new) result }
 {
     let mut draft = Draft {
         slot: 0,
@@ -110,7 +110,7 @@ pub fn parse<K: Kind>(
 ) -> Result<Definition, Fault>
     ensures kept { Beyond table.old table.new }
     ensures within { IfOk result (λ x. (0 < x.used) × (x.used ≤ length text.now)) }
-    ensures parses { MatchBool (nat_le 64 (length table.old)) (Parses (reading_of fields means bound loaded.now text.now) (Held group value bound table.new) result) (TooShort table.old table.new result) }
+    ensures parses { MatchBool (nat_le 64 (length table.old)) (Parses (reading_of K.fields K.means K.bound loaded.now text.now) (Held K.group K.value K.bound table.new) result) (TooShort table.old table.new result) }
 {
     if !empty(table) {
         return Err(Place { line: 0, field: 0 }.fault(Cause::ShortMemory));
@@ -137,8 +137,8 @@ pub fn read<K: Kind>(
 ) -> Result<Definition, Fault>
     ensures kept { Beyond table.old table.new }
     ensures within { IfOk result (λ x. (0 < x.used) × (x.used ≤ length text.now)) }
-    ensures as_made { ReadAsMade fields means bound loaded.now text.now }
-    ensures loads { MatchBool (nat_le 64 (length table.old)) (Loads group value (reading_of fields means bound loaded.now text.now) table.new result) (TooShort table.old table.new result) }
+    ensures as_made { ReadAsMade K.fields K.means K.bound loaded.now text.now }
+    ensures loads { MatchBool (nat_le 64 (length table.old)) (Loads K.group K.value (reading_of K.fields K.means K.bound loaded.now text.now) table.new result) (TooShort table.old table.new result) }
 {
     let definition = parse(text, loaded, table)?;
     if close(table, definition.types.len()).is_err() {

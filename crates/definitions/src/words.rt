@@ -45,7 +45,7 @@ pub fn word_at(number: usize, field: &[u8]) -> Option<Word>
 
 // Whether a line of that word has so many fields.
 pub fn has_fields<K: Kind>(word: Word, count: usize) -> bool
-    ensures { result ≡ (count == fields_of fields word) }
+    ensures { result ≡ (count == fields_of K.fields word) }
 {
     match word {
         Word::Chronicle | Word::Var => count == 2,

@@ -12,7 +12,7 @@ use report::line::Line;
 
 // Tells the rows that end at a moment, and answers how many stay.
 pub fn tell_ends<K: Kind, L: Sink<Line<K>>>(rows: &Lent<Row<K>>, moment: &K, lines: &mut L) -> usize
-    ensures { (kept : List (RowOf K)) × (result ≡ length kept) × Settles K.Kind L.Sink.took (value moment.now) (held rows.now) (held rows.now) kept lines.old lines.new }
+    ensures { (kept : List (RowOf K)) × (result ≡ length kept) × Settles K.Kind L.Sink.took (K.value moment.now) (held rows.now) (held rows.now) kept lines.old lines.new }
 {
     let mut staying = 0;
     for i in 0..rows.len() {
@@ -30,7 +30,7 @@ pub fn tell_ends<K: Kind, L: Sink<Line<K>>>(rows: &Lent<Row<K>>, moment: &K, lin
 
 // Tells the rows that end at a moment, and keeps only those that stay.
 pub fn bury<K: Kind, L: Sink<Line<K>>>(rows: &mut Lent<Row<K>>, moment: &K, lines: &mut L)
-    ensures kept { Settles K.Kind L.Sink.took (value moment.now) (held rows.old) (held rows.old) (held rows.new) lines.old lines.new }
+    ensures kept { Settles K.Kind L.Sink.took (K.value moment.now) (held rows.old) (held rows.old) (held rows.new) lines.old lines.new }
     ensures capacity { length (memory rows.new) ≡ length (memory rows.old) }
 {
     let mut stay = 0;

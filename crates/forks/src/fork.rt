@@ -22,7 +22,7 @@ fn fork_at<K: Kind, R: Sink<Row<K>>, L: Sink<Line<K>>>(
     rows: &mut R,
     lines: &mut L,
 )
-    ensures { Sunk R.Sink.took L.Sink.took rows.old rows.new lines.old lines.new (λ born ripe. (l : Loading G) (e : Seen G) → Parent K.Kind l e table.now wanted.bits arrival.now parent.now → Forked K.Kind l e (PutAt l (choice_of parent.now) e j) parent.now.slot born ripe) }
+    ensures { Sunk R.Sink.took L.Sink.took rows.old rows.new lines.old lines.new (λ born ripe. (l : Loading K.G) (e : Seen K.G) → Parent K.Kind l e table.now wanted.bits arrival.now parent.now → Forked K.Kind l e (PutAt l (choice_of parent.now) e j) parent.now.slot born ripe) }
 {
     if !wanted.has(j) || parent.filled.has(j) {
         return;
@@ -50,7 +50,7 @@ pub fn fork<K: Kind, R: Sink<Row<K>>, L: Sink<Line<K>>>(
     rows: &mut R,
     lines: &mut L,
 )
-    ensures { Sunk R.Sink.took L.Sink.took rows.old rows.new lines.old lines.new (λ born ripe. (l : Loading G) (e : Seen G) → Parent K.Kind l e table.now wanted.bits arrival.now parent.now → Forked K.Kind l e (Put l (choice_of parent.now) e) parent.now.slot born ripe) }
+    ensures { Sunk R.Sink.took L.Sink.took rows.old rows.new lines.old lines.new (λ born ripe. (l : Loading K.G) (e : Seen K.G) → Parent K.Kind l e table.now wanted.bits arrival.now parent.now → Forked K.Kind l e (Put l (choice_of parent.now) e) parent.now.slot born ripe) }
 {
     let width = parent.width as usize;
     for j in 0..width {

@@ -56,7 +56,7 @@ fn stamps_with<K: Kind>(stamps: &[K; 8], j: usize, stamp: K) -> [K; 8]
 impl<K: Kind> Row<K> {
     // A row of a slot with nothing filled, which has no deadline.
     pub fn blank(slot: u8, width: u8, arrival: &Arrival<K>) -> Row<K>
-        ensures { (result.slot ≡ slot) × ((l : Loading G) → width_of l ≡ width → width ≤ 8 → (choice_of result ≡ replicate width 0) × Standing K.Kind l result) }
+        ensures { (result.slot ≡ slot) × ((l : Loading K.G) → width_of l ≡ width → width ≤ 8 → (choice_of result ≡ replicate width 0) × Standing K.Kind l result) }
     {
         Row {
             deadline: Bound::NoBound,
@@ -70,7 +70,7 @@ impl<K: Kind> Row<K> {
 
     // The row with an event at the open variable j.
     pub fn with(&self, table: &[Bound<K>], j: usize, arrival: &Arrival<K>) -> Row<K>
-        ensures { (l : Loading G) (e : Seen G) → Standing K.Kind l self.now → ClosedTable group value weight l table.now → Placeable group l (choice_of self.now) j e → Arrives K.Kind e arrival.now → Grown K.Kind l self.now j e result }
+        ensures { (l : Loading K.G) (e : Seen K.G) → Standing K.Kind l self.now → ClosedTable K.group K.value K.weight l table.now → Placeable K.group l (choice_of self.now) j e → Arrives K.Kind e arrival.now → Grown K.Kind l self.now j e result }
     {
         let filled = self.filled.with(j);
         let numbers = numbers_with(&self.numbers, j, arrival.number);
@@ -88,7 +88,7 @@ impl<K: Kind> Row<K> {
 
     // The line of a recognition: the row with an event at its last open variable j.
     pub fn completed(&self, j: usize, arrival: &Arrival<K>) -> Line<K>
-        ensures { (l : Loading G) (e : Seen G) → Standing K.Kind l self.now → Placeable group l (choice_of self.now) j e → Arrives K.Kind e arrival.now → line_of value result ≡ recognition e self.now.slot (choice_plus (choice_of self.now) j e) }
+        ensures { (l : Loading K.G) (e : Seen K.G) → Standing K.Kind l self.now → Placeable K.group l (choice_of self.now) j e → Arrives K.Kind e arrival.now → line_of K.value result ≡ recognition e self.now.slot (choice_plus (choice_of self.now) j e) }
     {
         let choice = numbers_with(&self.numbers, j, arrival.number);
         Line {
@@ -102,7 +102,7 @@ impl<K: Kind> Row<K> {
 
     // The line with which a row ends that is no longer held at a moment; absent where it stays held.
     pub fn ending(&self, moment: &K) -> Option<Line<K>>
-        ensures { EndsAt K.Kind self.now (value moment.now) result }
+        ensures { EndsAt K.Kind self.now (K.value moment.now) result }
     {
         let Bound::At(stamp) = self.deadline else {
             return None;

@@ -29,7 +29,7 @@ pub fn spread_one<K: Kind, R: Sink<Row<K>>, L: Sink<Line<K>>>(
     rows: &mut R,
     lines: &mut L,
 )
-    ensures { Sunk R.Sink.took L.Sink.took rows.old rows.new lines.old lines.new (λ born ripe. (a : List (Act G)) (e : Event G) → Ready K.Kind a e entries.now wanted.now arrival.now → Alive K.Kind a e parent.now → SpreadOf K.Kind a e (row_of parent.now) born ripe) }
+    ensures { Sunk R.Sink.took L.Sink.took rows.old rows.new lines.old lines.new (λ born ripe. (a : List (Act K.G)) (e : Event K.G) → Ready K.Kind a e entries.now wanted.now arrival.now → Alive K.Kind a e parent.now → SpreadOf K.Kind a e (row_of parent.now) born ripe) }
 {
     let slot = parent.slot as usize;
     let table = table_of(entries, slot);
@@ -70,7 +70,7 @@ pub fn spread_rows<K: Kind, L: Sink<Line<K>>>(
     arrival: &Arrival<K>,
     lines: &mut L,
 )
-    ensures { Sunk stored L.Sink.took rows.old rows.new lines.old lines.new (λ born ripe. (a : List (Act G)) (e : Event G) → Ready K.Kind a e entries.now wanted.now arrival.now → All (Alive K.Kind a e) (held rows.old) → Spread K.Kind a e (map row_of (held rows.old)) born ripe) }
+    ensures { Sunk stored L.Sink.took rows.old rows.new lines.old lines.new (λ born ripe. (a : List (Act K.G)) (e : Event K.G) → Ready K.Kind a e entries.now wanted.now arrival.now → All (Alive K.Kind a e) (held rows.old) → Spread K.Kind a e (map row_of (held rows.old)) born ripe) }
 {
     for i in 0..rows.len() {
         let Some(row) = rows.get(i) else {
@@ -90,7 +90,7 @@ fn spread_slot<K: Kind, R: Sink<Row<K>>, L: Sink<Line<K>>>(
     rows: &mut R,
     lines: &mut L,
 )
-    ensures { Sunk R.Sink.took L.Sink.took rows.old rows.new lines.old lines.new (λ born ripe. (a : List (Act G)) (e : Event G) → Ready K.Kind a e entries.now wanted.now arrival.now → Loaded a slots.now → Begun K.Kind a e (λ r. r.slot ≡ slot) born ripe) }
+    ensures { Sunk R.Sink.took L.Sink.took rows.old rows.new lines.old lines.new (λ born ripe. (a : List (Act K.G)) (e : Event K.G) → Ready K.Kind a e entries.now wanted.now arrival.now → Loaded a slots.now → Begun K.Kind a e (λ r. r.slot ≡ slot) born ripe) }
 {
     if !slots.is_loaded(slot as usize) {
         return;
@@ -109,7 +109,7 @@ pub fn spread_slots<K: Kind, R: Sink<Row<K>>, L: Sink<Line<K>>>(
     rows: &mut R,
     lines: &mut L,
 )
-    ensures { Sunk R.Sink.took L.Sink.took rows.old rows.new lines.old lines.new (λ born ripe. (a : List (Act G)) (e : Event G) → Ready K.Kind a e entries.now wanted.now arrival.now → Loaded a slots.now → Begun K.Kind a e (λ r. Unit {0}) born ripe) }
+    ensures { Sunk R.Sink.took L.Sink.took rows.old rows.new lines.old lines.new (λ born ripe. (a : List (Act K.G)) (e : Event K.G) → Ready K.Kind a e entries.now wanted.now arrival.now → Loaded a slots.now → Begun K.Kind a e (λ r. Unit {0}) born ripe) }
 {
     for slot in 1..9u8 {
         spread_slot(slots, slot, entries, wanted, arrival, rows, lines);

@@ -1,5 +1,5 @@
 -- Which element fields mean, by how many they are.
-use Rattle.std.proofs.Common.{◌≡◌, ℕ, List, [], ◌∷◌, length, get_or, ℤ, Some, None, Ok, Err, Option, sym, refl, ap, ◌∙◌, arith}
+use Rattle.std.proofs.Common.{◌≡◌, ℕ, List, [], ◌∷◌, length, get_or, ℤ, Some, None, Ok, Err, Option, refl, arith}
 use Rattle.std.specs.Option.{ok_or}
 use Rattle.kinds.specs.Fields.{long, tick_means, pair_means, both}
 

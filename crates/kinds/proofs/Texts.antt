@@ -1,11 +1,11 @@
 -- What is written is read back.
-use Rattle.std.proofs.Common.{◌≡◌, ℕ, suc, ◌+◌, ◌^◌, ◌<◌, ◌≤◌, true, cond, not, ◌&&◌, eqb, leb, List, [], ◌∷◌, ◌++◌, length, get_or, ℤ, pos, negsuc, Some, None, decimal, sym, refl, ap, ◌∙◌, arith, rules}
-use lib.Signed.{mag, le_z}
+use Rattle.std.proofs.Common.{◌≡◌, ℕ, suc, ◌^◌, ◌<◌, ◌≤◌, true, not, ◌&&◌, eqb, leb, List, [], ◌∷◌, length, ℤ, pos, negsuc, Some, decimal, refl, ap, ◌∙◌, arith, rules}
+use lib.Signed.{mag}
 use Rattle.std.specs.Fmt.{signed_decimal}
 use Rattle.std.proofs.lemmas.Fmt.{digits_decimal, length_signed_le}
-use Rattle.std.proofs.lemmas.Str.Parse.{IsNumeralModel, numerals_by_fold}
+use Rattle.std.proofs.lemmas.Str.Parse.{numerals_by_fold}
 use Rattle.std.proofs.lemmas.Bool.{and_from, and_parts, leb-true, ne_eqb, not_from_false, cond-true}
-use Rattle.text.specs.Numbers.{all_digits, read_on, whole, within}
+use Rattle.text.specs.Numbers.{all_digits, read_on, within}
 use Rattle.text.specs.Split.{split, without}
 use Rattle.text.proofs.Splits.{split-before, split-whole}
 use Rattle.text.proofs.Wholes.{whole_signed}

@@ -1,5 +1,5 @@
 -- A bound is an element or 'no bound', which lies above every element and swallows whatever is added to it.
-use Rattle.std.specs.Prelude.{◌≡◌, ℕ, Bool, true, false}
+use Rattle.std.specs.Prelude.{ℕ, Bool, true, false}
 use Rattle.kinds.specs.declared.bound.Bound.{Bound}
 use Rattle.kinds.specs.declared.bound.Bound.TheVariants.{At, NoBound}
 use Rattle.kinds.specs.Ordered.{Ordered}

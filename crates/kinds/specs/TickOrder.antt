@@ -1,7 +1,6 @@
 -- Ticks: the whole numbers, with the limits and weights of a bound and a stamp.
-use Rattle.std.specs.Prelude.{◌≡◌, ℕ, ◌+◌, ◌*◌, ◌/◌, ◌^◌, ◌<◌, ◌≤◌, Bool, true, false, not, ◌&&◌, ◌⊎◌, ℤ, pos, negsuc, ◌+ℤ◌, neg_ℤ, ◌≤ℤ◌, ◌<ℤ◌, int_le, unsigned_abs, refl}
+use Rattle.std.specs.Prelude.{◌≡◌, ℕ, ◌+◌, ◌/◌, Bool, true, ◌&&◌, ◌⊎◌, ℤ, pos, negsuc, ◌+ℤ◌, neg_ℤ, ◌≤ℤ◌, int_le, unsigned_abs, refl}
 use Rattle.std.proofs.Common.{sym, inl, inr, arith}
-use Rattle.std.specs.Int.Signed.{lt_z}
 use Rattle.std.proofs.lemmas.Int.{ints, by_lt_z}
 use Rattle.std.proofs.lemmas.Bool.{and_parts}
 use Rattle.kinds.specs.Ordered.{Ordered}
@@ -18,7 +17,7 @@ tick_group = record {
   zero = pos 0;
   plus = ◌+ℤ◌;
   minus = neg_ℤ;
-  leq = le_z;
+  leq = int_le;
   plus_comm = λ x y. omega (arith, ints);
   plus_assoc = λ x y z. omega (arith, ints);
   plus_zero = λ x. omega (arith, ints);

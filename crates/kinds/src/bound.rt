@@ -12,7 +12,7 @@ pub enum Bound<K> {
 
 impl<K: Kind> Bound<K> {
     pub fn at_most(&self, other: &Bound<K>) -> bool
-        ensures { result ≡ at_most group (meant value self.now) (meant value other.now) }
+        ensures { result ≡ at_most K.group (meant K.value self.now) (meant K.value other.now) }
     {
         match (self, other) {
             (_, Bound::NoBound) => true,
@@ -22,7 +22,7 @@ impl<K: Kind> Bound<K> {
     }
 
     pub fn is_admitted(&self) -> bool
-        ensures { result ≡ admits bound (meant value self.now) }
+        ensures { result ≡ admits K.bound (meant K.value self.now) }
     {
         match self {
             Bound::At(x) => x.is_bound(),
@@ -32,8 +32,8 @@ impl<K: Kind> Bound<K> {
 
     // The sum, as a kind's: exact where it is present, and present while the weights are small.
     pub fn plus(&self, other: &Bound<K>) -> Option<Bound<K>>
-        ensures exact { (s : Bound K) → result ≡ Some s → meant value s ≡ join group (meant value self.now) (meant value other.now) }
-        ensures present { weighs weight (meant value self.now) + weighs weight (meant value other.now) ≤ 16777216 → is_some result ≡ true }
+        ensures exact { (s : Bound K) → result ≡ Some s → meant K.value s ≡ join K.group (meant K.value self.now) (meant K.value other.now) }
+        ensures present { weighs K.weight (meant K.value self.now) + weighs K.weight (meant K.value other.now) ≤ 16777216 → is_some result ≡ true }
     {
         let (Bound::At(x), Bound::At(y)) = (self, other) else {
             return Some(Bound::NoBound);

@@ -11,27 +11,27 @@ use kinds::kind::Kind;
 
 // A row is held exactly if its filled variables meet the closed bounds among themselves and no latest stamp of an open one is before now.
 pub fn closed_bounds_decide<K: Kind>()
-    ensures { ClosedBoundsDecide group }
+    ensures { ClosedBoundsDecide K.group }
 {}
 
 // What is held at a later moment was held, with the same events, at every earlier one.
 pub fn holding_shrinks<K: Kind>()
-    ensures { HoldingShrinks group }
+    ensures { HoldingShrinks K.group }
 {}
 
 // What is held or recognised with a new event comes from a row held before it, or from nothing, by leaving the event out.
 pub fn new_rows_from_old<K: Kind>()
-    ensures { NewRowsFromOld group }
+    ensures { NewRowsFromOld K.group }
 {}
 
 // If each call tells just its own lines, then of each loading just the lines owed are told, each once.
 pub fn owed_is_told<K: Kind>()
-    ensures { OwedIsTold group }
+    ensures { OwedIsTold K.group }
 {}
 
 // Whatever clock calls two watches accept besides, after each event both hold the same rows and have told the same lines.
 pub fn clocks_do_not_count<K: Kind>()
-    ensures { ClocksDoNotCount group }
+    ensures { ClocksDoNotCount K.group }
 {}
 
 // From what single calls answer and tell follows the law for every history: numbers, runs, rows, lines, and the independence from clock calls.

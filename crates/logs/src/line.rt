@@ -32,7 +32,7 @@ fn read_gauge(field: &[u8], place: Place) -> Result<u32, Fault>
 
 /// The stamp, in the fields after the first two: read, and admitted.
 fn read_stamp<K: Kind>(line: &[u8], place: Place) -> Result<K, Fault>
-    ensures { 2 < length (split 9 line.now) → Reads value (admitted fields means stamp (means (drop 2 (split 9 line.now)))) (fault_at BadField place.line place.field) result }
+    ensures { 2 < length (split 9 line.now) → Reads K.value (admitted K.fields K.means K.stamp (K.means (drop 2 (split 9 line.now)))) (fault_at BadField place.line place.field) result }
 {
     let stamp = K::read(parts_from(line, TAB, 2), place)?;
     if !stamp.is_stamp() {
@@ -43,7 +43,7 @@ fn read_stamp<K: Kind>(line: &[u8], place: Place) -> Result<K, Fault>
 
 /// The fields of line `number`, from the left.
 fn read_fields<K: Kind>(line: &[u8], number: usize) -> Result<Record<K>, Fault>
-    ensures { 2 < length (split 9 line.now) → Says value (fields_say fields means stamp number (split 9 line.now)) result }
+    ensures { 2 < length (split 9 line.now) → Says K.value (fields_say K.fields K.means K.stamp number (split 9 line.now)) result }
 {
     let name = Name::read(part(line, TAB, 0), field_place(number, 1))?;
     let gauge = read_gauge(part(line, TAB, 1), field_place(number, 2))?;
@@ -53,14 +53,14 @@ fn read_fields<K: Kind>(line: &[u8], number: usize) -> Result<Record<K>, Fault>
 
 /// Whether a line of so many fields has a name, a gauge and a stamp.
 fn has_fields<K: Kind>(count: usize) -> bool
-    ensures { result ≡ (count == 2 + fields) }
+    ensures { result ≡ (count == 2 + K.fields) }
 {
     count >= 2 && count - 2 == K::field_count()
 }
 
 /// Line `number` of a log: the number of its fields, then the fields.
 pub fn read_line<K: Kind>(line: &[u8], number: usize) -> Result<Record<K>, Fault>
-    ensures { Says value (line_says fields means stamp number (split 9 line.now)) result }
+    ensures { Says K.value (line_says K.fields K.means K.stamp number (split 9 line.now)) result }
 {
     if !has_fields::<K>(count(line, TAB)) {
         return Err(field_place(number, 0).fault(Cause::BadLine));

@@ -23,7 +23,7 @@ pub struct Merge<A, B> {
 
 fn paired<K: Kind, A: Source<K>, B: Source<K>>(first: A, second: B) -> Merge<A, B>
     ensures sources { (result.first ≡ first) × (result.second ≡ second) }
-    ensures law { MergeLaw group.leq (A.Source.waiting K.Kind first) (A.Source.ending K.Kind first) (B.Source.waiting K.Kind second) (B.Source.ending K.Kind second) }
+    ensures law { MergeLaw K.group.leq (A.Source.waiting K.Kind first) (A.Source.ending K.Kind first) (B.Source.waiting K.Kind second) (B.Source.ending K.Kind second) }
 {
     Merge { first, second }
 }
@@ -34,7 +34,7 @@ impl<A, B> Merge<A, B> {
         A: Source<K>,
         B: Source<K>,
         ensures sources { (result.first ≡ first) × (result.second ≡ second) }
-        ensures law { MergeLaw group.leq (A.Source.waiting K.Kind first) (A.Source.ending K.Kind first) (B.Source.waiting K.Kind second) (B.Source.ending K.Kind second) }
+        ensures law { MergeLaw K.group.leq (A.Source.waiting K.Kind first) (A.Source.ending K.Kind first) (B.Source.waiting K.Kind second) (B.Source.ending K.Kind second) }
     {
         paired::<K, A, B>(first, second)
     }
@@ -42,7 +42,7 @@ impl<A, B> Merge<A, B> {
 
 /// Whose turn it is, by what comes next in each source.
 fn whose_turn<K: Kind>(a: &Next<K>, b: &Next<K>) -> Side
-    ensures { result ≡ turn group.leq (meant value a.now) (meant value b.now) }
+    ensures { result ≡ turn K.group.leq (meant K.value a.now) (meant K.value b.now) }
 {
     match (a, b) {
         (Next::Ends(Ending::Clean), _) => Side::Second,
@@ -61,7 +61,7 @@ fn whose_turn<K: Kind>(a: &Next<K>, b: &Next<K>) -> Side
 
 /// Whose turn it is, by a look at each.
 fn pick<K: Kind, A: Source<K>, B: Source<K>>(a: &A, b: &B) -> Side
-    ensures { Turns group.leq (A.Source.waiting K.Kind a.now) (A.Source.ending K.Kind a.now) (B.Source.waiting K.Kind b.now) (B.Source.ending K.Kind b.now) result }
+    ensures { Turns K.group.leq (A.Source.waiting K.Kind a.now) (A.Source.ending K.Kind a.now) (B.Source.waiting K.Kind b.now) (B.Source.ending K.Kind b.now) result }
 {
     let x = a.look();
     let y = b.look();

@@ -23,11 +23,11 @@ pub trait Source<K: Kind> {
 
     /// The first record that waits, or the ending if none waits.
     fn look(&self) -> Next<K>
-        ensures { meant value result ≡ first (waiting K.Kind self.now) (ending K.Kind self.now) };
+        ensures { meant K.value result ≡ first (waiting K.Kind self.now) (ending K.Kind self.now) };
 
     /// The same, and the record no longer waits.
     fn take(&mut self) -> Next<K>
-        ensures next { meant value result ≡ first (waiting K.Kind self.old) (ending K.Kind self.old) }
+        ensures next { meant K.value result ≡ first (waiting K.Kind self.old) (ending K.Kind self.old) }
         ensures left { waiting K.Kind self.new ≡ drop 1 (waiting K.Kind self.old) }
         ensures same { ending K.Kind self.new ≡ ending K.Kind self.old };
 }

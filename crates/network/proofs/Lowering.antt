@@ -1,13 +1,13 @@
 -- What a write to one bound of a table leaves.
-use Rattle.std.proofs.Common.{◌≡◌, ℕ, ◌+◌, ◌*◌, ◌<◌, ◌≤◌, Bool, true, false, List, length, get_or, set, sym, refl, ap, ◌∙◌, subst, ⊎_elim, arith}
+use Rattle.std.proofs.Common.{◌≡◌, ℕ, ◌+◌, ◌<◌, ◌≤◌, true, false, List, length, get_or, set, sym, refl, ap, ◌∙◌, subst, ⊎_elim, arith}
 use Rattle.std.proofs.lemmas.Bool.{cases_lt}
 use Rattle.std.proofs.lemmas.List.{get_or-set_same, get_or-set_other}
 use Rattle.kinds.specs.Ordered.{Ordered}
 use Rattle.kinds.specs.Bounds.{join, at_most, weighs, meant}
 use Rattle.kinds.specs.declared.bound.Bound.{Bound}
-use Rattle.kinds.specs.declared.bound.Bound.TheVariants.{At, NoBound}
+use Rattle.kinds.specs.declared.bound.Bound.TheVariants.{NoBound}
 use Rattle.network.specs.Tables.{cell, entry}
-use Rattle.network.specs.Steps.{Under, Lesser, Tightened, Emptied, Relaxed}
+use Rattle.network.specs.Steps.{Lesser, Tightened, Emptied, Relaxed}
 use Rattle.network.proofs.Order.{lesser_first, lesser_second}
 
 module _ {K G : Type 0} (O : Ordered G) (value : K → G) (i j : ℕ) (i<8 : i < 8) (j<8 : j < 8) (other : Bound K) where

@@ -1,5 +1,5 @@
 -- The order and the sums of bounds.
-use Rattle.std.proofs.Common.{◌≡◌, Bool, true, false, ◌⊎◌, sym, refl, ap, ◌∙◌, subst, inl, inr, ⊎_elim}
+use Rattle.std.proofs.Common.{◌≡◌, true, false, ◌⊎◌, refl, ap, ◌∙◌, subst, inl, inr, ⊎_elim}
 use Rattle.std.proofs.lemmas.Bool.{false≢true, both_ways}
 use Rattle.kinds.specs.Ordered.{Ordered}
 use Rattle.kinds.specs.Bounds.{join, at_most}

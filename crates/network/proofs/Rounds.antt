@@ -1,15 +1,14 @@
 -- Rounds of the closure: what each keeps, and what the last one gives.
-use Rattle.std.proofs.Common.{◌≡◌, ℕ, ◌+◌, ◌<◌, ◌≤◌, Bool, true, false, ◌⊎◌, sym, refl, ap, ◌∙◌, subst, inl, inr, ⊎_elim, arith}
-use Rattle.std.proofs.lemmas.Bool.{false≢true, both_ways, cases_lt}
+use Rattle.std.proofs.Common.{◌≡◌, ℕ, ◌+◌, ◌<◌, false, sym, refl, ap, ◌∙◌, subst, ⊎_elim, arith}
+use Rattle.std.proofs.lemmas.Bool.{both_ways, cases_lt}
 use Rattle.kinds.specs.Ordered.{Ordered}
-use Rattle.kinds.specs.Bounds.{join, at_most, weighs}
-use Rattle.kinds.specs.Weights.{Weighed}
+use Rattle.kinds.specs.Bounds.{join, at_most}
 use Rattle.kinds.specs.declared.bound.Bound.{Bound}
 use Rattle.kinds.specs.declared.bound.Bound.TheVariants.{At, NoBound}
 use Rattle.network.specs.Chains.{Chain, Closed, Contradictory}
 use Rattle.network.specs.Chains.Chain.{empty, step}
-use Rattle.network.specs.Steps.{Under, Lesser, Net, Round, Going}
-use Rattle.network.proofs.Order.{under, join_comm, under_refl, under_trans, under_none, join_mono, join_assoc, zero_plus, zero_join, join_zero}
+use Rattle.network.specs.Steps.{Under, Net, Round, Going}
+use Rattle.network.proofs.Order.{join_comm, under_refl, under_trans, join_mono, join_assoc, zero_plus, zero_join, join_zero}
 
 module _ {G : Type 0} (O : Ordered G) (Given : ℕ → ℕ → G → Type 0) where
   pub chain_append : {i k j : ℕ} {x y : G} → Chain O Given i k x → Chain O Given k j y → Chain O Given i j (O.plus x y)

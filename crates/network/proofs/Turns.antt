@@ -1,5 +1,5 @@
 -- What the loops over rows keep, turn by turn.
-use Rattle.std.proofs.Common.{◌≡◌, ℕ, ◌+◌, ◌*◌, ◌^◌, ◌<◌, ◌≤◌, Bool, true, false, ◌⊎◌, List, length, get_or, sym, refl, ap, ◌∙◌, subst, inl, inr, ⊎_elim, arith, pow_mono, pow-add}
+use Rattle.std.proofs.Common.{◌≡◌, ℕ, ◌+◌, ◌^◌, ◌<◌, ◌≤◌, Bool, true, false, ◌⊎◌, List, sym, refl, ap, ◌∙◌, subst, inl, inr, ⊎_elim, arith, pow_mono, pow-add}
 use Rattle.std.proofs.lemmas.Bool.{cases_lt, cases_eq}
 use Rattle.kinds.specs.Ordered.{Ordered}
 use Rattle.kinds.specs.Bounds.{join, at_most, admits, weighs, meant}
@@ -8,7 +8,7 @@ use Rattle.kinds.specs.declared.bound.Bound.TheVariants.{At, NoBound}
 use Rattle.network.specs.Tables.{cell, entry, Tabled, Admitted, Elsewhere}
 use Rattle.network.specs.Steps.{Under, Lesser, Tightened, Relaxed, Grounded, Rounding, Round, Going, Light, Running, Ran}
 use Rattle.kinds.specs.Weights.{Weighed}
-use Rattle.network.specs.Chains.{Chain, Contradictory}
+use Rattle.network.specs.Chains.{Chain}
 use Rattle.network.specs.Chains.Chain.{empty, step}
 use Rattle.network.proofs.Rounds.{round_keeps, below_zero}
 use Rattle.network.proofs.Order.{under, under_refl, under_same, join_mono, zero_join}

@@ -30,7 +30,7 @@ pub fn put<K: Kind>(table: &mut [Bound<K>], i: usize, j: usize, bound: Bound<K>)
 // Whether the bound from i to j is at most another.
 fn is_within<K: Kind>(table: &[Bound<K>], i: usize, j: usize, other: &Bound<K>) -> bool
     requires { Inside i j table.now }
-    ensures { result ≡ at_most group (entry value table.now i j) (meant value other.now) }
+    ensures { result ≡ at_most K.group (entry K.value table.now i j) (meant K.value other.now) }
 {
     get(table, i, j).at_most(other)
 }
@@ -38,7 +38,7 @@ fn is_within<K: Kind>(table: &[Bound<K>], i: usize, j: usize, other: &Bound<K>) 
 // The bound from i to j becomes the lesser of itself and another.
 pub fn lower<K: Kind>(table: &mut [Bound<K>], i: usize, j: usize, other: Bound<K>)
     requires { Inside i j table.old }
-    ensures { Tightened group value i j other table.old table.new }
+    ensures { Tightened K.group K.value i j other table.old table.new }
 {
     if !is_within(table, i, j, &other) {
         put(table, i, j, other);

@@ -21,8 +21,8 @@ pub enum Unclosed {
 // The sum of a bound to k and that from k to j: exact where it is present, and present while the weights are small.
 fn joined<K: Kind>(table: &[Bound<K>], via: &Bound<K>, k: usize, j: usize) -> Option<Bound<K>>
     requires { Inside k j table.now }
-    ensures exact { (s : Bound K) → result ≡ Some s → meant value s ≡ join group (meant value via.now) (entry value table.now k j) }
-    ensures present { weighs weight (meant value via.now) + weighs weight (entry value table.now k j) ≤ 16777216 → is_some result ≡ true }
+    ensures exact { (s : Bound K) → result ≡ Some s → meant K.value s ≡ join K.group (meant K.value via.now) (entry K.value table.now k j) }
+    ensures present { weighs K.weight (meant K.value via.now) + weighs K.weight (entry K.value table.now k j) ≤ 16777216 → is_some result ≡ true }
 {
     via.plus(&get(table, k, j))
 }
@@ -30,7 +30,7 @@ fn joined<K: Kind>(table: &[Bound<K>], via: &Bound<K>, k: usize, j: usize) -> Op
 // Lowers each bound from i to the way by k, which is another variable.
 fn relax_row<K: Kind>(table: &mut [Bound<K>], width: usize, k: usize, i: usize)
     requires { (Inside i k table.old) × ((InRange width table.old) × ((i ≢ k))) }
-    ensures { Relaxed group value weight i k width table.old table.new }
+    ensures { Relaxed K.group K.value K.weight i k width table.old table.new }
 {
     let via = get(table, i, k);
     for j in 0..width {
@@ -43,7 +43,7 @@ fn relax_row<K: Kind>(table: &mut [Bound<K>], width: usize, k: usize, i: usize)
 // Lowers each bound to the way by k.
 fn relax<K: Kind>(table: &mut [Bound<K>], width: usize, k: usize)
     requires { (InRange width table.old) × (k < width) }
-    ensures { Rounding group value weight width k width table.old table.new }
+    ensures { Rounding K.group K.value K.weight width k width table.old table.new }
 {
     for i in 0..width {
         if i != k {
@@ -55,7 +55,7 @@ fn relax<K: Kind>(table: &mut [Bound<K>], width: usize, k: usize)
 // Lowers the bound from each variable to itself to zero.
 fn ground<K: Kind>(table: &mut [Bound<K>], width: usize)
     requires { InRange width table.old }
-    ensures { Grounded group value width table.old table.new }
+    ensures { Grounded K.group K.value width table.old table.new }
 {
     let zero = Bound::At(K::zero());
     for d in 0..width {
@@ -66,7 +66,7 @@ fn ground<K: Kind>(table: &mut [Bound<K>], width: usize)
 // Whether the bound from k to itself is not below zero.
 fn is_settled<K: Kind>(table: &[Bound<K>], k: usize) -> bool
     requires { Inside k k table.now }
-    ensures { result ≡ at_most group (At group.zero) (entry value table.now k k) }
+    ensures { result ≡ at_most K.group (At K.group.zero) (entry K.value table.now k k) }
 {
     let zero = Bound::At(K::zero());
     zero.at_most(&get(table, k, k))
@@ -75,7 +75,7 @@ fn is_settled<K: Kind>(table: &[Bound<K>], k: usize) -> bool
 // The rounds of the closure; false where a cycle sums below zero.
 fn rounds<K: Kind>(table: &mut [Bound<K>], width: usize) -> bool
     requires { InRange width table.old }
-    ensures { Ran group value weight width table.old table.new result }
+    ensures { Ran K.group K.value K.weight width table.old table.new result }
 {
     for k in 0..width {
         // A cycle below zero shows here, before the round of its highest variable.
@@ -90,7 +90,7 @@ fn rounds<K: Kind>(table: &mut [Bound<K>], width: usize) -> bool
 // Whether each of the bounds from i is admitted.
 fn row_admitted<K: Kind>(table: &[Bound<K>], width: usize, i: usize) -> bool
     requires { (InRange width table.now) × (i < width) }
-    ensures { Decides result ((j : ℕ) → j < width → admits bound (entry value table.now i j) ≡ true) }
+    ensures { Decides result ((j : ℕ) → j < width → admits K.bound (entry K.value table.now i j) ≡ true) }
 {
     for j in 0..width {
         if !get(table, i, j).is_admitted() {
@@ -103,7 +103,7 @@ fn row_admitted<K: Kind>(table: &[Bound<K>], width: usize, i: usize) -> bool
 // Whether each bound among the variables is admitted.
 fn all_admitted<K: Kind>(table: &[Bound<K>], width: usize) -> bool
     requires { InRange width table.now }
-    ensures { Decides result (Admitted value bound width table.now) }
+    ensures { Decides result (Admitted K.value K.bound width table.now) }
 {
     for i in 0..width {
         if !row_admitted(table, width, i) {
@@ -116,7 +116,7 @@ fn all_admitted<K: Kind>(table: &[Bound<K>], width: usize) -> bool
 // Closes the bounds among the first `width` variables of a table: each becomes the smallest sum over all chains of them.
 // A table that is refused as contradictory is left as free memory; any other refusal leaves it as it was.
 pub fn close<K: Kind>(table: &mut [Bound<K>], width: usize) -> Result<(), Unclosed>
-    ensures closes { Closes value group bound width table.old table.new result }
+    ensures closes { Closes K.value K.group K.bound width table.old table.new result }
     ensures elsewhere { Elsewhere width table.old table.new }
 {
     if width < 1 || width > MOST_VARIABLES || table.len() < CELLS {

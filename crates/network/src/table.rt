@@ -28,7 +28,7 @@ pub fn empty<K: Kind>(table: &mut [Bound<K>]) -> bool
 pub fn tighten<K: Kind>(table: &mut [Bound<K>], from: usize, to: usize, bound: Bound<K>) -> bool
     ensures inside { result ≡ (nat_le 64 (length table.old) && (nat_lt from 8 && nat_lt to 8)) }
     ensures beyond { Beyond table.old table.new }
-    ensures after { MatchBool result (Tightened group value from to bound table.old table.new) (table.new ≡ table.old) }
+    ensures after { MatchBool result (Tightened K.group K.value from to bound table.old table.new) (table.new ≡ table.old) }
 {
     if table.len() < CELLS || from >= MOST_VARIABLES || to >= MOST_VARIABLES {
         return false;

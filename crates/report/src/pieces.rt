@@ -7,8 +7,8 @@ use text::writing::put;
 
 // Writes the head, the stamp and a line feed where they fit, and says where they end; else writes nothing.
 pub fn put_pieces<K: Kind>(out: &mut [u8], start: usize, head: &[u8], stamp: &K) -> Option<usize>
-    ensures place { result ≡ place_after out.old start (head.now ++ (written stamp.now ++ (10 ∷ []))) }
-    ensures after { out.new ≡ pasted out.old start (head.now ++ (written stamp.now ++ (10 ∷ []))) }
+    ensures place { result ≡ place_after out.old start (head.now ++ (K.written stamp.now ++ (10 ∷ []))) }
+    ensures after { out.new ≡ pasted out.old start (head.now ++ (K.written stamp.now ++ (10 ∷ []))) }
 {
     let len = out.len();
     if start > len {

@@ -21,8 +21,8 @@ fn put_line<K: Kind>(
     stamp: &K,
 ) -> Option<usize>
     requires { length events.now ≤ 8 }
-    ensures place { result ≡ place_after out.old start (head_text letter slot events.now ++ (written stamp.now ++ (10 ∷ []))) }
-    ensures after { out.new ≡ pasted out.old start (head_text letter slot events.now ++ (written stamp.now ++ (10 ∷ []))) }
+    ensures place { result ≡ place_after out.old start (head_text letter slot events.now ++ (K.written stamp.now ++ (10 ∷ []))) }
+    ensures after { out.new ≡ pasted out.old start (head_text letter slot events.now ++ (K.written stamp.now ++ (10 ∷ []))) }
 {
     let mut buffer = [0u8; WIDEST_HEAD];
     let end = put_head(&mut buffer, letter, slot, events);
@@ -32,8 +32,8 @@ fn put_line<K: Kind>(
 impl<K: Kind> Line<K> {
     // Writes the text from `start` on where it fits, and says where it ends; else writes nothing.
     pub fn write(&self, out: &mut [u8], start: usize) -> Result<usize, TextShort>
-        ensures place { result ≡ ok_or (place_after out.old start (line_text written self.now)) text_short }
-        ensures after { out.new ≡ pasted out.old start (line_text written self.now) }
+        ensures place { result ≡ ok_or (place_after out.old start (line_text K.written self.now)) text_short }
+        ensures after { out.new ≡ pasted out.old start (line_text K.written self.now) }
     {
         let events = chosen(&self.choice, self.width);
         put_line(out, start, self.letter, self.slot, events, &self.stamp).ok_or(TextShort)

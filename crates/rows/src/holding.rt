@@ -26,14 +26,14 @@ pub enum Placing {
 
 // A row that is held stays so up to its deadline, and at it.
 pub fn stays_held<K: Kind>(deadline: &Bound<K>, moment: &K) -> bool
-    ensures { (l : Loading G) (k : List ℕ) (t : Option G) (closed : ℕ → ℕ → BoundOf G) → ClosedBy group l.chronicle closed (width_of l) → HeldIn group l t k → Deadline group l k (meant value deadline.now) → Decides result (HeldIn group l (Some (value moment.now)) k) }
+    ensures { (l : Loading K.G) (k : List ℕ) (t : Option K.G) (closed : ℕ → ℕ → BoundOf K.G) → ClosedBy K.group l.chronicle closed (width_of l) → HeldIn K.group l t k → Deadline K.group l k (meant K.value deadline.now) → Decides result (HeldIn K.group l (Some (K.value moment.now)) k) }
 {
     Bound::At(*moment).at_most(deadline)
 }
 
 // What a variable's stamp comes to, with an event of that stamp as the last one: its own where it is filled, or else none before that.
 fn reached<K: Kind>(filled: Filled, stamps: &[K], stamp: &K, i: usize) -> K
-    ensures { i < length stamps.now → value result ≡ (if is_in filled.bits i then stamp_at group value stamps.now i else value stamp.now) }
+    ensures { i < length stamps.now → K.value result ≡ (if is_in filled.bits i then stamp_at K.group K.value stamps.now i else K.value stamp.now) }
 {
     if !filled.has(i) {
         return *stamp;
@@ -53,8 +53,8 @@ fn allows<K: Kind>(
     stamp: &K,
     to: usize,
 ) -> bool
-    ensures { Inside from to table.now → to < length stamps.now → weight (value stamp.now) + weighs weight (entry value table.now from to) ≤ 16777216 →
-        result ≡ at_most group (At (if is_in filled.bits to then stamp_at group value stamps.now to else value stamp.now)) (join group (At (value stamp.now)) (entry value table.now from to)) }
+    ensures { Inside from to table.now → to < length stamps.now → K.weight (K.value stamp.now) + weighs K.weight (entry K.value table.now from to) ≤ 16777216 →
+        result ≡ at_most K.group (At (if is_in filled.bits to then stamp_at K.group K.value stamps.now to else K.value stamp.now)) (join K.group (At (K.value stamp.now)) (entry K.value table.now from to)) }
 {
     let own = Bound::At(reached(filled, stamps, stamp, to));
     own.at_most(&latest_after(table, from, stamp, to))
@@ -69,8 +69,8 @@ fn allows_all<K: Kind>(
     j: usize,
     stamp: &K,
 ) -> bool
-    ensures { (l : Loading G) (k : List ℕ) → Portrays group value weight l k filled.bits stamps.now width → ClosedTable group value weight l table.now → weight (value stamp.now) ≤ 256 → j < width_of l →
-        Decides result ((i : ℕ) → i < width_of l → Allows group (entry value table.now) (is_filled k) (stamp_at group value stamps.now) (value stamp.now) j i) }
+    ensures { (l : Loading K.G) (k : List ℕ) → Portrays K.group K.value K.weight l k filled.bits stamps.now width → ClosedTable K.group K.value K.weight l table.now → K.weight (K.value stamp.now) ≤ 256 → j < width_of l →
+        Decides result ((i : ℕ) → i < width_of l → Allows K.group (entry K.value table.now) (is_filled k) (stamp_at K.group K.value stamps.now) (K.value stamp.now) j i) }
 {
     for i in 0..width {
         if !allows(table, filled, stamps, j, stamp, i) {
@@ -89,8 +89,8 @@ pub fn place<K: Kind>(
     j: usize,
     stamp: &K,
 ) -> Placing
-    ensures { (l : Loading G) (k : List ℕ) (e : Seen G) → Portrays group value weight l k filled.bits stamps.now width → ClosedTable group value weight l table.now → e.seen.stamp ≡ value stamp.now → weight (value stamp.now) ≤ 256 → Placeable group l k j e →
-        Placed group (loading_plus l e) (choice_plus k j e) e.seen.stamp result }
+    ensures { (l : Loading K.G) (k : List ℕ) (e : Seen K.G) → Portrays K.group K.value K.weight l k filled.bits stamps.now width → ClosedTable K.group K.value K.weight l table.now → e.seen.stamp ≡ K.value stamp.now → K.weight (K.value stamp.now) ≤ 256 → Placeable K.group l k j e →
+        Placed K.group (loading_plus l e) (choice_plus k j e) e.seen.stamp result }
 {
     if !allows_all(table, filled, stamps, width, j, stamp) {
         return Placing::Fails;

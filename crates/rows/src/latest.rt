@@ -15,7 +15,7 @@ use kinds::kind::Kind;
 use network::table::bound_between;
 
 fn lesser<K: Kind>(one: Bound<K>, other: Bound<K>) -> Bound<K>
-    ensures { Lesser group (meant value one) (meant value other) (meant value result) }
+    ensures { Lesser K.group (meant K.value one) (meant K.value other) (meant K.value result) }
 {
     if one.at_most(&other) { one } else { other }
 }
@@ -27,7 +27,7 @@ pub(crate) fn latest_after<K: Kind>(
     stamp: &K,
     to: usize,
 ) -> Bound<K>
-    ensures { Inside from to table.now → weight (value stamp.now) + weighs weight (entry value table.now from to) ≤ 16777216 → meant value result ≡ join group (At (value stamp.now)) (entry value table.now from to) }
+    ensures { Inside from to table.now → K.weight (K.value stamp.now) + weighs K.weight (entry K.value table.now from to) ≤ 16777216 → meant K.value result ≡ join K.group (At (K.value stamp.now)) (entry K.value table.now from to) }
 {
     let Some(bound) = bound_between(table, from, to) else {
         return Bound::NoBound;
@@ -40,7 +40,7 @@ pub(crate) fn latest_after<K: Kind>(
 
 // The stamp of a variable; none past the end of memory.
 pub(crate) fn stamp_of<K: Kind>(stamps: &[K], i: usize) -> Option<K>
-    ensures { MatchOption result (length stamps.now ≤ i) (λ s. value s ≡ stamp_at group value stamps.now i) }
+    ensures { MatchOption result (length stamps.now ≤ i) (λ s. K.value s ≡ stamp_at K.group K.value stamps.now i) }
 {
     if i < stamps.len() {
         Some(stamps[i])
@@ -51,7 +51,7 @@ pub(crate) fn stamp_of<K: Kind>(stamps: &[K], i: usize) -> Option<K>
 
 // The latest stamp of variable j after the event of variable i.
 fn latest_by<K: Kind>(table: &[Bound<K>], stamps: &[K], i: usize, j: usize) -> Bound<K>
-    ensures { Inside i j table.now → i < length stamps.now → weight (stamp_at group value stamps.now i) + weighs weight (entry value table.now i j) ≤ 16777216 → meant value result ≡ join group (At (stamp_at group value stamps.now i)) (entry value table.now i j) }
+    ensures { Inside i j table.now → i < length stamps.now → K.weight (stamp_at K.group K.value stamps.now i) + weighs K.weight (entry K.value table.now i j) ≤ 16777216 → meant K.value result ≡ join K.group (At (stamp_at K.group K.value stamps.now i)) (entry K.value table.now i j) }
 {
     match stamp_of(stamps, i) {
         Some(stamp) => latest_after(table, i, &stamp, j),
@@ -67,7 +67,7 @@ pub fn latest<K: Kind>(
     width: usize,
     j: usize,
 ) -> Bound<K>
-    ensures { (l : Loading G) (k : List ℕ) → Portrays group value weight l k filled.bits stamps.now width → ClosedTable group value weight l table.now → j < width_of l → Smallest group (Latest group l k j) (meant value result) }
+    ensures { (l : Loading K.G) (k : List ℕ) → Portrays K.group K.value K.weight l k filled.bits stamps.now width → ClosedTable K.group K.value K.weight l table.now → j < width_of l → Smallest K.group (Latest K.group l k j) (meant K.value result) }
 {
     let mut least = Bound::NoBound;
     for i in 0..width {
@@ -82,7 +82,7 @@ pub fn latest<K: Kind>(
 
 // The deadline of a row: the smallest latest stamp of its open variables.
 pub fn deadline<K: Kind>(table: &[Bound<K>], filled: Filled, stamps: &[K], width: usize) -> Bound<K>
-    ensures { (l : Loading G) (k : List ℕ) → Portrays group value weight l k filled.bits stamps.now width → ClosedTable group value weight l table.now → Deadline group l k (meant value result) }
+    ensures { (l : Loading K.G) (k : List ℕ) → Portrays K.group K.value K.weight l k filled.bits stamps.now width → ClosedTable K.group K.value K.weight l table.now → Deadline K.group l k (meant K.value result) }
 {
     let mut least = Bound::NoBound;
     for j in 0..width {

@@ -49,7 +49,7 @@ fn read_into<K: Kind>(
 ) -> Result<Definition, Fault>
     requires { (1 ≤ slot) × ((slot ≤ 8) × (512 ≤ length entries.old)) }
     ensures within { IfOk result (λ x. (0 < x.used) × (x.used ≤ length text.now)) }
-    ensures reads { Reads group value weight (reading_of fields means bound loaded.now text.now) (slot_table slot entries.new) result }
+    ensures reads { Reads K.group K.value K.weight (reading_of K.fields K.means K.bound loaded.now text.now) (slot_table slot entries.new) result }
     ensures others { OthersKept slot entries.old entries.new }
     ensures memory { length entries.new ≡ length entries.old }
 {

@@ -30,7 +30,7 @@ pub struct Lined<K> {
 
 /// The record in line `number`, which begins at byte `from`.
 fn read_record<K: Kind>(text: &[u8], from: usize, number: usize) -> Result<Lined<K>, Fault>
-    ensures { ReadsRecord value text.now from (judged fields means stamp number (split 10 (drop from text.now))) result }
+    ensures { ReadsRecord K.value text.now from (judged K.fields K.means K.stamp number (split 10 (drop from text.now))) result }
 {
     let line = line_at(text, from, number)?;
     let record = read_line(line, number)?;
@@ -43,8 +43,8 @@ fn read_record<K: Kind>(text: &[u8], from: usize, number: usize) -> Result<Lined
 /// What comes next in the log of that number after so many lines, of which the next begins at byte `cursor`.
 pub fn read_ahead<K: Kind>(text: &[u8], log: u8, lines: usize, cursor: usize) -> Ahead<K>
     requires { (cursor ≤ length text.now) × (lines ≤ cursor) }
-    ensures waiting { ahead_waiting K.Kind text.now result ≡ records_from fields means stamp (lines + 1) (split 10 (drop cursor text.now)) }
-    ensures ending { ahead_ending K.Kind log text.now result ≡ ending_from fields means stamp log (lines + 1) (split 10 (drop cursor text.now)) }
+    ensures waiting { ahead_waiting K.Kind text.now result ≡ records_from K.fields K.means K.stamp (lines + 1) (split 10 (drop cursor text.now)) }
+    ensures ending { ahead_ending K.Kind log text.now result ≡ ending_from K.fields K.means K.stamp log (lines + 1) (split 10 (drop cursor text.now)) }
     ensures within { result.cursor ≤ length text.now }
     ensures counted { result.lines ≤ result.cursor }
 {

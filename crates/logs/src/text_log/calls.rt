@@ -46,7 +46,7 @@ impl<'a, K: Kind> Source<K> for TextLog<'a, K> {
     }
 
     fn take(&mut self) -> Next<K>
-        ensures next { meant value result ≡ first (log_waiting K.Kind self.old) (log_ending K.Kind self.old) }
+        ensures next { meant K.value result ≡ first (log_waiting K.Kind self.old) (log_ending K.Kind self.old) }
         ensures left { log_waiting K.Kind self.new ≡ drop 1 (log_waiting K.Kind self.old) }
         ensures same { log_ending K.Kind self.new ≡ log_ending K.Kind self.old }
         ensures text { self.new.text.now ≡ self.old.text.now }

@@ -9,13 +9,13 @@ use Rattle.definitions.proofs.opening.opening_slot.Goals as goal
 pub returns-in_err-line : goal.returns-in_err-line
 returns-in_err-line g c =
     let m = g.K.Kind in
-    let p = err_from_is_err_and c.from-residual.result c.from-residual.ensures.1 in
+    let p = err_from_is_err_and c.from_residual.result c.from_residual.ensures.1 in
     rw (p.1, p.2) (line_refused m.fields m.means m.bound m.takes c.args.loaded.now c.args.text.now c.in_err-line.field-0.0 c.in_err-line.ensures)
 
 pub returns-in_err-item : goal.returns-in_err-item
 returns-in_err-item g c =
     let m = g.K.Kind in
-    let p = err_from_is_err_and c.from-residual-in_err-item.result c.from-residual-in_err-item.ensures.1 in
+    let p = err_from_is_err_and c.from_residual-in_err-item.result c.from_residual-in_err-item.ensures.1 in
     rw (p.1, p.2) (item_refused m.fields m.means m.bound m.takes c.args.loaded.now c.args.text.now
     c.in_ok-line.line.now c.in_ok-line.ensures c.in_err-item.field-0.0 c.in_err-item.ensures)
 

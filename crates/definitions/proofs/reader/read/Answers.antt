@@ -67,7 +67,7 @@ pub returns-in_err-definition : goal.returns-in_err-definition
 returns-in_err-definition g c =
     let m = g.K.Kind in
     let told = c.in_err-definition.ensures in
-    let p = err_from_is_err_and c.from-residual.result c.from-residual.ensures.1 in
+    let p = err_from_is_err_and c.from_residual.result c.from_residual.ensures.1 in
     rw (p.1, p.2) (record {
       kept = told.kept;
       as-made = read_as_made m.fields m.means m.bound m.takes c.args.loaded.now c.args.text.now;

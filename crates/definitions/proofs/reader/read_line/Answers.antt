@@ -21,7 +21,7 @@ overflow_add-result-2 g c =
 pub returns-in_err-accept : goal.returns-in_err-accept
 returns-in_err-accept g c =
     let m = g.K.Kind in
-    let p = err_from_is_err_and c.from-residual-in_err-accept.result c.from-residual-in_err-accept.ensures.1 in
+    let p = err_from_is_err_and c.from_residual-in_err-accept.result c.from_residual-in_err-accept.ensures.1 in
     let said = said_by m.value c.in_ok-item.item in
     let says = c.in_ok-item.ensures in
     let allowed = item_admits m.fields m.means m.bound c.args.number (split 9 c.in_ok-line.line.now) said says in

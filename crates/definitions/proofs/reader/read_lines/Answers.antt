@@ -18,7 +18,7 @@ lines-init g c =
 pub returns-in_err-step : goal.returns-in_err-step
 returns-in_err-step g c =
     let m = g.K.Kind in
-    let p = err_from_is_err_and c.from-residual.result c.from-residual.ensures.1 in
+    let p = err_from_is_err_and c.from_residual.result c.from_residual.ensures.1 in
     let told = c.in_err-step.ensures in
     rw (p.1, p.2) (record {
       kept = λ k h. told.kept k h ∙ c.lines.invariant.2 k h;

@@ -1,4 +1,4 @@
-use Rattle.std.proofs.Common.{◌≡◌, true, false, MatchBool, sym, ◌∙◌, subst, arith}
+use Rattle.std.proofs.Common.{MatchBool, subst, arith}
 use Rattle.network.specs.Chains.{Contradictory}
 use Rattle.network.specs.Steps.{Going}
 use Rattle.network.specs.Tables.{InRange, Admitted, Tabled, entry}
@@ -13,7 +13,7 @@ came_to : (g : given.Over) (c : After-rounds g) → InRange c.args.width c.args.
     × MatchBool c.rounds.result (Going g.K.Kind.group (Tabled g.K.Kind.value c.args.width c.args.table.now) c.args.width c.args.width (entry g.K.Kind.value c.rounds.new.table)) (Contradictory g.K.Kind.group (Tabled g.K.Kind.value c.args.width c.args.table.now))
 came_to g c =
     let m = g.K.Kind in
-    let all = c.all_admitted_lem.ensures.0 c.if-not-all_admitted.false in (
+    let all = c.all_admitted.ensures.0 c.if-not-all_admitted.false in (
       (omega arith, omega arith, omega arith),
       all,
       c.rounds.ensures.outcome c.args.table.now

@@ -1,4 +1,4 @@
-use Rattle.std.proofs.Common.{◌≡◌, ◌+◌, ◌<◌, ◌≤◌, sym, ap, subst, arith}
+use Rattle.std.proofs.Common.{◌≡◌, ◌+◌, ◌<◌, ◌≤◌, sym, subst, arith}
 use Rattle.network.specs.Steps.{Rounding}
 use Rattle.network.proofs.Turns.{rounding_skip, rounding_more}
 use Rattle.network.proofs.closing.relax.Goals as goal

@@ -24,7 +24,7 @@ returns-in_err-end g c =
     let last : k + 1 ≡ length out = omega arith in
     let short = too_short out head stamp start k last c.write.new.out told.after told.place in
     record {
-      place = c.from-residual.ensures ∙ nowhere out head stamp start short;
+      place = c.from_residual.ensures ∙ nowhere out head stamp start short;
       after = as_it_was out head stamp start k last c.write.new.out told.after told.place ∙ nothing out head stamp start short;
     }
 

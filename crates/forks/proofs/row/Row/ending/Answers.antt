@@ -15,11 +15,11 @@ returns-in_default g c l t closed by standing held =
     (stays_held_lem m.group l (choice_of self) t closed by held x (meant m.value self.deadline) standing.due).0 (subst (λ b. at_most m.group (At x) (meant m.value b) ≡ true) (sym c.in_default.is) refl)
 
 pub returns-then-stays_held : goal.returns-then-stays_held
-returns-then-stays_held g c l t closed by standing held = (c.stays_held_lem.ensures l (choice_of c.args.self.now) t closed by held standing.due).0 c.if-stays_held.true
+returns-then-stays_held g c l t closed by standing held = (c.stays_held.ensures l (choice_of c.args.self.now) t closed by held standing.due).0 c.if-stays_held.true
 
 pub returns : goal.returns
 returns g c l t closed by standing held = (
-  λ still. both_ways _ c.if-stays_held.false ((c.stays_held_lem.ensures l (choice_of c.args.self.now) t closed by held standing.due).1 still),
+  λ still. both_ways _ c.if-stays_held.false ((c.stays_held.ensures l (choice_of c.args.self.now) t closed by held standing.due).1 still),
   refl,
   subst (λ b. Deadline g.K.Kind.group l (choice_of c.args.self.now) (meant g.K.Kind.value b)) c.in-At.is standing.due,
 )

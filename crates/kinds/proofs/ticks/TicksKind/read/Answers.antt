@@ -1,4 +1,4 @@
-use Rattle.std.proofs.Common.{◌≡◌, [], length, get_or, Some, sym, ap, ◌∙◌, w64, SFits, rules}
+use Rattle.std.proofs.Common.{◌≡◌, [], get_or, Some, sym, ap, ◌∙◌, w64, SFits, rules}
 use Rattle.std.proofs.lemmas.Result.{err_from_is_err_and}
 use Rattle.std.proofs.lemmas.Int.{to_z-of_z}
 use Rattle.text.specs.Split.{split}
@@ -13,7 +13,7 @@ meant c = tick_one (split 9 c.args.text.now) (sym c.count.ensures ∙ c.if-count
 
 pub returns-in_err-count : goal.returns-in_err-count
 returns-in_err-count c =
-    let p = err_from_is_err_and c.from-residual.result c.from-residual.ensures.1 in
+    let p = err_from_is_err_and c.from_residual.result c.from_residual.ensures.1 in
     let e = ok_or_err (long (get_or (split 9 c.args.text.now) 0 [])) _ _ c.in_err-count.ensures in
     rw (p.1, p.2) (meant (goal.at.returns-in_err-count c).After-read_field ∙ e.0, e.1)
 
