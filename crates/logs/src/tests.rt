@@ -58,11 +58,11 @@ fn a_text_stops_or_breaks_off(rt: HostRuntime) -> Result<(), Fail> {
     ends(&rt, &ticks(b"").look(), CLEAN)?;
     let mut log = ticks(b"JUMP\t101\t100\nSEEP");
     assert_eq!(rt; gauge(&log.look()), 101);
-    assert_eq!(rt; log.faulty_line(), b"");
+    assert_eq!(rt; log.faulty_line(), b"".as_slice());
     assert_eq!(rt; gauge(&log.take()), 101);
     ends(&rt, &log.take(), fault(12, 2, 0))?;
     ends(&rt, &log.look(), fault(12, 2, 0))?;
-    assert_eq!(rt; log.faulty_line(), b"SEEP");
+    assert_eq!(rt; log.faulty_line(), b"SEEP".as_slice());
     Ok(())
 }
 

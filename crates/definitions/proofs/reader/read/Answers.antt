@@ -39,7 +39,7 @@ returns-then-is_err g c =
     let err = refused m.group m.value m.bound c.parse.new.table c.close.new.table x c.close.result (sym c.is_err.ensures.value ∙ c.if-is_err.true) in
     record {
       kept = kept g at;
-      as-made = read_as_made m.fields m.means m.bound m.takes c.args.loaded.now c.args.text.now;
+      as_made = read_as_made m.fields m.means m.bound m.takes c.args.loaded.now c.args.text.now;
       within = tt;
       loads = when_read m.group m.value m.bound c.parse.new.table c.close.new.table x
           (reading_of m.fields m.means m.bound c.args.loaded.now c.args.text.now) (Held m.group m.value m.bound c.parse.new.table) c.args.table.now c.parse.new.table (leb 64 (length c.args.table.now)) (Err c.contradiction.result)
@@ -55,7 +55,7 @@ returns g c =
     let ok = taken m.group m.value m.bound c.parse.new.table c.close.new.table x c.close.result (sym c.is_err.ensures.value ∙ c.if-is_err.false) in
     record {
       kept = kept g at;
-      as-made = read_as_made m.fields m.means m.bound m.takes c.args.loaded.now c.args.text.now;
+      as_made = read_as_made m.fields m.means m.bound m.takes c.args.loaded.now c.args.text.now;
       within = c.in_ok-definition.ensures.within;
       loads = when_read m.group m.value m.bound c.parse.new.table c.close.new.table x
           (reading_of m.fields m.means m.bound c.args.loaded.now c.args.text.now) (Held m.group m.value m.bound c.parse.new.table) c.args.table.now c.parse.new.table (leb 64 (length c.args.table.now)) (Ok x)
@@ -70,7 +70,7 @@ returns-in_err-definition g c =
     let p = err_from_is_err_and c.from_residual.result c.from_residual.ensures.1 in
     rw (p.1, p.2) (record {
       kept = told.kept;
-      as-made = read_as_made m.fields m.means m.bound m.takes c.args.loaded.now c.args.text.now;
+      as_made = read_as_made m.fields m.means m.bound m.takes c.args.loaded.now c.args.text.now;
       within = tt;
       loads = when_refused m.group m.value (reading_of m.fields m.means m.bound c.args.loaded.now c.args.text.now) (Held m.group m.value m.bound c.parse.new.table)
           c.args.table.now c.parse.new.table (leb 64 (length c.args.table.now)) c.in_err-definition.field-0.0 told.parses;
