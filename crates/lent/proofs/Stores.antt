@@ -1,5 +1,5 @@
 -- What a list has taken: by one push, and where there is room for all.
-use Rattle.std.proofs.Common.{◌≡◌, ◌+◌, ◌≤◌, Bool, true, false, List, [], ◌∷◌, ◌++◌, length, take, drop, set, sym, refl, ap, ◌∙◌, subst, arith}
+use Rattle.std.proofs.Common.{◌≡◌, ◌+◌, ◌≤◌, Bool, true, false, List, [], ◌∷◌, ◌++◌, length, drop, sym, refl, ap, ◌∙◌, subst, arith}
 use Rattle.std.proofs.lemmas.List.{length-append, length_push, length-set, take_all, take_at, drop-set-lt}
 use Rattle.lent.specs.declared.list.Lent.{Lent}
 use Rattle.lent.specs.Lists.{memory, held, Pushes}

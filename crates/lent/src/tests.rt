@@ -6,7 +6,7 @@ use crate::room::Room;
 use crate::sink::Sink;
 
 fn put_both<S: Sink<u8>>(sink: &mut S, first: &u8, second: &u8)
-    ensures { took sink.old (first.now ∷ second.now ∷ []) sink.new }
+    ensures { S.took sink.old (first.now ∷ second.now ∷ []) sink.new }
 {
     sink.put(first);
     sink.put(second);
@@ -75,6 +75,8 @@ fn sinks_take_what_they_have_room_for(rt: HostRuntime) {
     let mut room = Room::new(3);
     put_both(&mut room, &1, &2);
     assert_eq!(rt; room.left(), 1);
+    assert!(rt; !room.is_short());
     put_both(&mut room, &3, &4);
     assert_eq!(rt; room.left(), 0);
+    assert!(rt; room.is_short());
 }

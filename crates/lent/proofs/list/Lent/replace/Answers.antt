@@ -3,8 +3,8 @@ use lib.Seq.{take-set-lt}
 use Rattle.std.proofs.lemmas.List.{length-take}
 use Rattle.lent.proofs.list.Lent.replace.Goals as goal
 
-pub put-at-requires : goal.put_at-requires
-put-at-requires g c = omega (arith, length-take c.args.self.now.len c.args.self.now.items.now)
+pub put_at-requires : goal.put_at-requires
+put_at-requires g c = omega (arith, length-take c.args.self.now.len c.args.self.now.items.now)
 
 pub returns : goal.returns
 returns g c =
