@@ -1,10 +1,9 @@
 -- How the calls of a heap change its bag and keep its order.
 use Rattle.std.proofs.Common.{◌≡◌, ℕ, zero, suc, ◌+◌, ◌-◌, ◌/◌, ◌<◌, ◌≤◌, Bool, true, List, [], ◌∷◌, ◌++◌, length, get_or, take, drop, set, Some, None, Option, sym, refl, ap, ◌∙◌, subst, ⊎_elim, arith}
 use Rattle.std.specs.List.Sorted.{IsPermutation}
-use Rattle.std.proofs.Permutation.{taken-first}
 use Rattle.std.proofs.lemmas.Bool.{cases_eq}
 use Rattle.std.proofs.ByRecursion.{All-from_get_or}
-use Rattle.std.proofs.lemmas.List.Sorted.{IsPermutation-cons, IsPermutation-trans, IsPermutation-sym, IsPermutation-to_front}
+use Rattle.std.proofs.lemmas.List.Sorted.{IsPermutation-cons, IsPermutation-trans, IsPermutation-sym, IsPermutation-to_front, IsPermutation-swap_remove}
 use Rattle.std.proofs.lemmas.List.{length_push, length-take-le, length-set, length-drop, take_at, get_or-take, get_or-drop, get_or-set_other, nil_from_length}
 use Rattle.queue.specs.Ranks.{Ranks}
 use Rattle.queue.specs.Heaps.{Heaped, HeapedFrom, first, Leads}
@@ -75,5 +74,5 @@ first_none_at i xs past = first_none (drop i xs) (simp length-drop (omega arith)
 pub removed : {X : Type 0} (xs ws : List X) (x last : X) → Some x ≡ first xs → 0 < length xs → ((d : X) → last ≡ get_or xs (length xs - 1) d) → IsPermutation (take (length xs - 1) (set xs 0 last)) ws → IsPermutation xs (x ∷ ws)
 removed xs ws x last is some is_last bag =
     let rest = take (length xs - 1) (set xs 0 last) in
-    let taken : IsPermutation xs (x ∷ rest) = subst (λ l. IsPermutation xs (x ∷ take (length xs - 1) (set xs 0 l))) (sym (is_last x)) (taken-first xs x some (at_first xs x is x)) in
+    let taken : IsPermutation xs (x ∷ rest) = subst (λ l. IsPermutation xs (x ∷ take (length xs - 1) (set xs 0 l))) (sym (is_last x)) (IsPermutation-swap_remove xs 0 x some (at_first xs x is x)) in
     IsPermutation-trans xs (x ∷ rest) (x ∷ ws) taken (IsPermutation-cons x rest ws bag)

@@ -1,6 +1,6 @@
 -- The order within a heap, and the element that leads it.
 use Rattle.std.specs.Prelude.{◌≡◌, ℕ, ◌+◌, ◌*◌, ◌<◌, ◌≤◌, Bool, true, List, [], ◌∷◌, length, Some, None, Option, slice_index_or}
-use Rattle.std.specs.List.{ContainsAt as Has, AllByRecursion as All}
+use Rattle.std.specs.List.{ContainsAt, AllByRecursion}
 
 -- no parent from `low` on comes later than a child of it; the children of p are at 2p + 1 and 2p + 2
 pub record HeapedFrom {X : Type 0} (leq : X → X → Bool) (low : ℕ) (xs : List X) : Type 0 where
@@ -16,4 +16,4 @@ first (x ∷ xs) = Some x
 -- x is one of xs and comes no later than any; none where there is none
 abbrev pub Leads : {X : Type 0} → (X → X → Bool) → List X → Option X → Type 0
 Leads leq xs None = xs ≡ []
-Leads leq xs (Some x) = Has xs x × All (λ y. leq x y ≡ true) xs
+Leads leq xs (Some x) = ContainsAt xs x × AllByRecursion (λ y. leq x y ≡ true) xs

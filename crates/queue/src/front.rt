@@ -19,7 +19,7 @@ pub fn front_len<T: Copy>(items: &[T], len: usize) -> usize
 pub fn front_at<T: Ranked>(items: &[T], len: usize, i: usize) -> Option<T>
     ensures element { result ≡ first (drop i (take len items.now)) }
     ensures inside { Inside i (take len items.now) result }
-    ensures leads { result ≡ first (take len items.now) → Heaped leq (take len items.now) → Leads leq (take len items.now) result }
+    ensures leads { result ≡ first (take len items.now) → Heaped T.leq (take len items.now) → Leads T.leq (take len items.now) result }
 {
     if front_len(items, len) <= i {
         return None;
@@ -39,7 +39,7 @@ pub fn put_behind<T: Copy>(items: &mut [T], len: usize, item: T)
 // Makes a heap of the front.
 pub fn heapify_front<T: Ranked>(items: &mut [T], len: usize)
     ensures shuffled { IsPermutation (take len items.old) (take len items.new) }
-    ensures heaped { Heaped leq (take len items.new) }
+    ensures heaped { Heaped T.leq (take len items.new) }
     ensures memory { length items.new ≡ length items.old }
 {
     let count = front_len(items, len);
@@ -49,7 +49,7 @@ pub fn heapify_front<T: Ranked>(items: &mut [T], len: usize)
 // Lets x, the last of the front, rise to its place among the others, xs.
 pub fn raise_last<T: Ranked>(items: &mut [T], len: usize)
     ensures shuffled { (xs : List T) (x : T) → take len items.old ≡ xs ++ (x ∷ []) → IsPermutation (x ∷ xs) (take len items.new) }
-    ensures heaped { (xs : List T) (x : T) → take len items.old ≡ xs ++ (x ∷ []) → Heaped leq xs → Heaped leq (take len items.new) }
+    ensures heaped { (xs : List T) (x : T) → take len items.old ≡ xs ++ (x ∷ []) → Heaped T.leq xs → Heaped T.leq (take len items.new) }
     ensures memory { length items.new ≡ length items.old }
 {
     let count = front_len(items, len);
@@ -63,7 +63,7 @@ pub fn raise_last<T: Ranked>(items: &mut [T], len: usize)
 pub fn remove_front<T: Ranked>(items: &mut [T], len: usize)
     requires { (0 < len) × (len ≤ length items.old) }
     ensures shuffled { (n : ℕ) (x : T) → len ≡ length (take n items.old) → Some x ≡ first (take n items.old) → IsPermutation (take n items.old) (x ∷ take (len - 1) items.new) }
-    ensures heaped { (n : ℕ) → len ≡ length (take n items.old) → Heaped leq (take n items.old) → Heaped leq (take (len - 1) items.new) }
+    ensures heaped { (n : ℕ) → len ≡ length (take n items.old) → Heaped T.leq (take n items.old) → Heaped T.leq (take (len - 1) items.new) }
     ensures memory { length items.new ≡ length items.old }
 {
     remove_first(&mut items[0..len]);

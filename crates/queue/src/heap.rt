@@ -25,7 +25,7 @@ impl<'a, T: Ranked> Heap<'a, T> {
     pub fn new(lent: &'a mut [T]) -> Heap<'a, T>
         ensures empty { held result ≡ [] }
         ensures over { memory result ≡ lent.old }
-        ensures heaped { Heaped leq (held result) }
+        ensures heaped { Heaped T.leq (held result) }
     {
         Heap {
             items: lent,
@@ -56,7 +56,7 @@ impl<'a, T: Ranked> Heap<'a, T> {
     fn at(&self, i: usize) -> Option<T>
         ensures element { result ≡ first (drop i (held self.now)) }
         ensures inside { Inside i (held self.now) result }
-        ensures leads { result ≡ first (held self.now) → Heaped leq (held self.now) → Leads leq (held self.now) result }
+        ensures leads { result ≡ first (held self.now) → Heaped T.leq (held self.now) → Leads T.leq (held self.now) result }
     {
         front_at(&*self.items, self.len, i)
     }
@@ -64,7 +64,7 @@ impl<'a, T: Ranked> Heap<'a, T> {
     // The element that comes no later than any, where the heap is in order; absent where it is empty.
     pub fn least(&self) -> Option<T>
         ensures first { result ≡ first (held self.now) }
-        ensures leads { Heaped leq (held self.now) → Leads leq (held self.now) result }
+        ensures leads { Heaped T.leq (held self.now) → Leads T.leq (held self.now) result }
     {
         self.at(0)
     }
@@ -72,7 +72,7 @@ impl<'a, T: Ranked> Heap<'a, T> {
     pub fn clear(&mut self)
         ensures empty { held self.new ≡ [] }
         ensures memory { memory self.new ≡ memory self.old }
-        ensures heaped { Heaped leq (held self.new) }
+        ensures heaped { Heaped T.leq (held self.new) }
     {
         self.len = 0;
     }
@@ -93,7 +93,7 @@ impl<'a, T: Ranked> Heap<'a, T> {
     // Brings all elements into order, in linear time.
     pub fn settle(&mut self)
         ensures shuffled { IsPermutation (held self.old) (held self.new) }
-        ensures heaped { Heaped leq (held self.new) }
+        ensures heaped { Heaped T.leq (held self.new) }
         ensures capacity { length (memory self.new) ≡ length (memory self.old) }
     {
         let len = self.len;
@@ -102,7 +102,7 @@ impl<'a, T: Ranked> Heap<'a, T> {
 
     // Adds an element in its place; refused, with nothing changed, where the memory is full.
     pub fn push(&mut self, item: T) -> Result<(), Full>
-        ensures { Stores self.old self.new result (λ ys. IsPermutation (item ∷ held self.old) ys × (Heaped leq (held self.old) → Heaped leq ys)) }
+        ensures { Stores self.old self.new result (λ ys. IsPermutation (item ∷ held self.old) ys × (Heaped T.leq (held self.old) → Heaped T.leq ys)) }
     {
         self.append(item)?;
         let len = self.len;
@@ -114,7 +114,7 @@ impl<'a, T: Ranked> Heap<'a, T> {
     pub fn take(&mut self) -> Option<T>
         ensures first { result ≡ first (held self.old) }
         ensures takes { Takes self.old self.new result }
-        ensures leads { Heaped leq (held self.old) → Leads leq (held self.old) result × Heaped leq (held self.new) }
+        ensures leads { Heaped T.leq (held self.old) → Leads T.leq (held self.old) result × Heaped T.leq (held self.new) }
     {
         let len = self.len();
         let Some(first) = self.at(0) else {

@@ -9,7 +9,7 @@ use crate::ranked::Ranked;
 // Whether the element at i comes no later than the one at j.
 fn in_order<T: Ranked>(items: &[T], i: usize, j: usize) -> bool
     requires { (i < length items.now) × (j < length items.now) }
-    ensures { Tells leq i j items.now result }
+    ensures { Tells T.leq i j items.now result }
 {
     items[i].at_most(&items[j])
 }
@@ -17,7 +17,7 @@ fn in_order<T: Ranked>(items: &[T], i: usize, j: usize) -> bool
 // The child of a parent that comes no later than its other one.
 fn foremost_child<T: Ranked>(items: &[T], parent: usize) -> usize
     requires { parent * 2 + 1 < length items.now }
-    ensures { Foremost leq parent result items.now }
+    ensures { Foremost T.leq parent result items.now }
 {
     let left = parent * 2 + 1;
     if left + 1 == items.len() {
@@ -34,7 +34,7 @@ fn foremost_child<T: Ranked>(items: &[T], parent: usize) -> usize
 pub fn sift_up<T: Ranked>(items: &mut [T])
     requires { 0 < length items.old }
     ensures shuffled { IsPermutation items.old items.new }
-    ensures heaped { Heaped leq (take (length items.old - 1) items.old) → Heaped leq items.new }
+    ensures heaped { Heaped T.leq (take (length items.old - 1) items.old) → Heaped T.leq items.new }
 {
     let mut place = items.len() - 1;
     while 0 < place {
@@ -50,7 +50,7 @@ pub fn sift_up<T: Ranked>(items: &mut [T])
 // Lets the element at `root` sink to its place among the parents from there on.
 fn sift_down<T: Ranked>(items: &mut [T], root: usize)
     ensures shuffled { IsPermutation items.old items.new }
-    ensures heaped { HeapedFrom leq (root + 1) items.old → HeapedFrom leq root items.new }
+    ensures heaped { HeapedFrom T.leq (root + 1) items.old → HeapedFrom T.leq root items.new }
 {
     let mut place = root;
     while place < items.len() / 2 {
@@ -66,7 +66,7 @@ fn sift_down<T: Ranked>(items: &mut [T], root: usize)
 // Makes a heap of all elements, from the last parent up: in linear time.
 pub fn heapify<T: Ranked>(items: &mut [T])
     ensures shuffled { IsPermutation items.old items.new }
-    ensures heaped { Heaped leq items.new }
+    ensures heaped { Heaped T.leq items.new }
 {
     let mut root = items.len() / 2;
     while 0 < root {
@@ -79,7 +79,7 @@ pub fn heapify<T: Ranked>(items: &mut [T])
 pub fn remove_first<T: Ranked>(items: &mut [T])
     requires { 0 < length items.old }
     ensures shuffled { (x : T) → Some x ≡ first items.old → IsPermutation items.old (x ∷ take (length items.old - 1) items.new) }
-    ensures heaped { Heaped leq items.old → Heaped leq (take (length items.old - 1) items.new) }
+    ensures heaped { Heaped T.leq items.old → Heaped T.leq (take (length items.old - 1) items.new) }
 {
     let last = items.len() - 1;
     items[0] = items[last];

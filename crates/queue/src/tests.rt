@@ -1,5 +1,5 @@
 // Heaps of jobs that are ranked by when they are due.
-ghost use Rattle.std.specs.Prelude.{leb, nat_le};
+ghost use Rattle.std.specs.Prelude.{nat_le};
 ghost use Rattle.queue.specs.Keys.{by_key, numbers};
 
 use crate::heap::{Full, Heap};
@@ -15,7 +15,7 @@ struct Job {
 impl Ranked for Job {
     ghost leq = { λ x y. nat_le x.due y.due };
 
-    ghost ranks = { by_key (λ x. x.due) leb numbers };
+    ghost ranks = { by_key (λ x. x.due) nat_le numbers };
 
     fn at_most(&self, other: &Job) -> bool {
         self.due <= other.due
