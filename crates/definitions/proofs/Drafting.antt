@@ -1,5 +1,5 @@
 -- What a new type name and a new bound make of a draft.
-use Rattle.std.proofs.Common.{◌≡◌, ℕ, ◌+◌, ◌<◌, ◌≤◌, Bool, true, false, not, ◌&&◌, eqb, ltb, ◌⊎◌, List, [], ◌∷◌, ◌++◌, length, get_or, Ok, Err, Result, sym, refl, ap, ◌∙◌, subst, inl, inr, ⊎_elim, arith}
+use Rattle.std.proofs.Common.{◌≡◌, ℕ, ◌+◌, ◌<◌, Bool, true, not, ◌&&◌, eqb, ltb, ◌⊎◌, List, [], ◌∷◌, ◌++◌, length, Ok, Result, sym, refl, ap, ◌∙◌, subst, inl, inr, ⊎_elim, arith}
 use Rattle.std.proofs.lemmas.List.{length_push}
 use Rattle.std.proofs.lemmas.Bool.{false≢true, cases_eq, and_from, and_parts, ltb-true, lt-ltb, ne_eqb, not_from_false}
 use Rattle.text.specs.declared.fault.Fault.{Fault}
@@ -8,14 +8,14 @@ use Rattle.kinds.specs.Bounds.{at_most, meant}
 use Rattle.kinds.specs.declared.bound.Bound.{Bound}
 use Rattle.kinds.specs.declared.bound.Bound.TheVariants.{At, NoBound}
 use Rattle.network.specs.Tables.{cell, entry}
-use Rattle.network.specs.Steps.{Under, Lesser, Tightened}
+use Rattle.network.specs.Steps.{Lesser, Tightened}
 use Rattle.definitions.proofs.TypeNames.{names_length}
 use Rattle.definitions.specs.declared.draft.Draft.{Draft}
 use Rattle.definitions.specs.declared.types.Types.{Types}
 use Rattle.definitions.specs.Chronicles.{Limit, Chronicle, Given}
 use Rattle.definitions.specs.Reading.{is_pair, blank}
 use Rattle.definitions.specs.TypeNames.{type_names}
-use Rattle.definitions.specs.Drafts.{Smallest, Holds, Empty, Held, Drafted, Agrees}
+use Rattle.definitions.specs.Drafts.{Smallest, Holds, Empty, Drafted, Agrees}
 
 module _ {G : Type 0} (l : Limit G) (i j : ℕ) (c : G) where
   pub given_push : (ls : List (Limit G)) → Given (ls ++ (l ∷ [])) i j c → Given ls i j c ⊎ ((l.from ≡ i) × (l.to ≡ j) × (l.most ≡ c))

@@ -1,11 +1,9 @@
 -- Why a text is read exactly as it is made.
-use Rattle.std.proofs.Common.{◌≡◌, ℕ, suc, ◌+◌, ◌<◌, ◌≤◌, Bool, true, false, cond, not, ◌&&◌, eqb, ltb, leb, ◌⊎◌, List, [], ◌∷◌, ◌++◌, length, get_or, drop, Some, None, Ok, Err, codes, Option, Result, sym, refl, ap, ◌∙◌, subst, inl, inr, ⊎_elim, arith}
+use Rattle.std.proofs.Common.{◌≡◌, ℕ, ◌+◌, ◌<◌, ◌≤◌, Bool, true, false, cond, not, ◌&&◌, eqb, ltb, leb, List, [], ◌∷◌, length, get_or, drop, Some, None, Ok, Err, codes, Option, Result, sym, refl, ap, ◌∙◌, subst, arith}
 use Rattle.std.proofs.lemmas.Slice.Eq.{bytes_eq-Decides}
-use Rattle.std.proofs.lemmas.Bool.{and_parts, and_from, eqb-true, eqb-false, eq-eqb, ne_eqb, leb-true, le-leb, ltb-true, lt-ltb, not-true, not_from_false, cond-true, cond-false, false≢true, both_ways}
+use Rattle.std.proofs.lemmas.Bool.{and_parts, eqb-true, eqb-false, eq-eqb, ne_eqb, leb-true, le-leb, ltb-true, lt-ltb, not-true, cond-true, cond-false, false≢true}
 use Rattle.std.specs.Str.{bytes_eq}
-use Rattle.text.specs.declared.fault.Cause.TheVariants.{BadField, BadLine, TooMany, BadPair, SlotLoaded}
 use Rattle.text.specs.declared.fault.Fault.{Fault}
-use Rattle.text.specs.Faults.{fault_at}
 use Rattle.text.specs.Lines.{line_of}
 use Rattle.text.specs.Names.{is_name}
 use Rattle.text.specs.Split.{split}
@@ -13,14 +11,14 @@ use Rattle.text.proofs.Splits.{split_some_part}
 use Rattle.kinds.specs.Fields.{Takes}
 use Rattle.definitions.specs.declared.words.Word.{Word}
 use Rattle.definitions.specs.declared.words.Word.TheVariants.{Chronicle as Opens, Var, Bound, End}
-use Rattle.definitions.specs.Chronicles.{Limit, Chronicle, Said}
+use Rattle.definitions.specs.Chronicles.{Chronicle, Said}
 use Rattle.definitions.specs.Chronicles.Said.{opening, variable, limit, closing}
 use Rattle.definitions.specs.Grammar.{Spells, Follows, SoundLine, MadeOf, FirstFault, ReadAsMade}
 use Rattle.definitions.specs.Grammar.Spells.{chronicle_line, var_line, bound_line, end_line}
 use Rattle.definitions.specs.Grammar.Follows.{opens, names, bounds, ends}
 use Rattle.definitions.specs.Grammar.MadeOf.{last, more}
 use Rattle.definitions.specs.Grammar.FirstFault.{here, later}
-use Rattle.definitions.specs.Lines.{word_at, fields_of, given, small, admitted, limit_of, valued, worded, item_of}
+use Rattle.definitions.specs.Lines.{word_at, fields_of, small, admitted, valued, worded, item_of}
 use Rattle.definitions.specs.Reading.{blank, then, is_loaded, is_closing, is_pair, accepted, Sound, Reading, judged, after, read_from}
 use Rattle.definitions.proofs.Drafting.{pair_passes}
 use Rattle.definitions.proofs.Items.{given_some, item_valued}

@@ -1,12 +1,11 @@
 -- What the line of a bound says, field by field.
-use Rattle.std.proofs.Common.{◌≡◌, ℕ, Bool, eqb, List, [], length, get_or, drop, Some, None, Ok, Err, Option, Result, sym, refl, ap, ◌∙◌}
+use Rattle.std.proofs.Common.{◌≡◌, ℕ, Bool, eqb, List, [], length, get_or, drop, Some, None, Ok, Err, Option, Result, ap, ◌∙◌}
 use Rattle.std.proofs.lemmas.Bool.{cond-true, eq-eqb}
 use Rattle.text.specs.declared.fault.Cause.TheVariants.{BadField, BadLine}
 use Rattle.text.specs.declared.fault.Fault.{Fault}
 use Rattle.text.specs.Faults.{fault_at}
 use Rattle.definitions.specs.declared.words.Word.{Word}
 use Rattle.definitions.specs.declared.words.Word.TheVariants.{Bound}
-use Rattle.definitions.specs.Chronicles.{Said}
 use Rattle.definitions.specs.Chronicles.Said.{limit}
 use Rattle.definitions.specs.Lines.{word_at, fields_of, given, small, admitted, limit_of, valued, worded, item_of}
 

@@ -1,5 +1,5 @@
 -- Chains over a table that holds the smallest bounds, and chains over the bounds themselves, come to the same.
-use Rattle.std.proofs.Common.{◌≡◌, ℕ, ◌<◌, ◌≤◌, Bool, true, false, List, length, is_err, Ok, Err, MatchBool, Result, sym, refl, ap, ◌∙◌, subst, ⊎_elim, arith}
+use Rattle.std.proofs.Common.{◌≡◌, ℕ, ◌<◌, ◌≤◌, Bool, true, false, List, length, is_err, Ok, Err, MatchBool, Result, refl, ap, ◌∙◌, subst, ⊎_elim, arith}
 use Rattle.std.proofs.lemmas.Bool.{false≢true, both_ways, cases_Bool}
 use Rattle.text.specs.declared.fault.Cause.TheVariants.{Contradictory as Contradicts}
 use Rattle.text.specs.declared.fault.Fault.{Fault}
@@ -17,9 +17,9 @@ use Rattle.network.proofs.Order.{plus_mono}
 use Rattle.definitions.specs.Chronicles.{Chronicle, Given}
 use Rattle.definitions.specs.declared.reader.Definition.{Definition}
 use Rattle.definitions.specs.Drafts.{Smallest, Held}
-use Rattle.definitions.specs.Loading.{TooShort, Loads, ClosedTable}
+use Rattle.definitions.specs.Loading.{TooShort, Loads}
 use Rattle.definitions.specs.Reading.{Reading}
-use Rattle.definitions.specs.Steps.{Defined, Parses}
+use Rattle.definitions.specs.Steps.{Parses}
 use Rattle.definitions.specs.TypeNames.{type_names}
 
 module _ {K G : Type 0} (group : Ordered G) (value : K → G) (bound : G → Bool) (table : List (Bound K)) (d : Chronicle G) (held : Held group value bound table d) where

@@ -1,6 +1,6 @@
 -- The type names that are held: how many, one more, and each.
 use Rattle.std.proofs.Common.{◌≡◌, ℕ, ◌+◌, ◌<◌, ◌≤◌, List, [], ◌∷◌, ◌++◌, map, length, get_or, take, set, is_some, Some, None, Option, sym, refl, ap, ◌∙◌, subst, arith, MatchOption}
-use Rattle.std.proofs.lemmas.List.{length-take-le, length-map, length-set, map-set, take_more_set, get_or-take, get_or-map, get_or_default}
+use Rattle.std.proofs.lemmas.List.{length-take-le, length-map, map-set, take_more_set, get_or-take, get_or-map, get_or_default}
 use Rattle.std.proofs.lemmas.Bool.{both_ways}
 use Rattle.text.specs.declared.name.Name.{Name}
 use Rattle.text.specs.Spelled.{spelled}

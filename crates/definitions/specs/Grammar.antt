@@ -1,5 +1,5 @@
 -- A definition in words, above its reading line by line: of which lines it is made, and which line is the first at fault.
-use Rattle.std.specs.Prelude.{◌≡◌, ℕ, ◌+◌, ◌<◌, ◌≤◌, Bool, true, false, ◌↔◌, List, [], ◌∷◌, ◌++◌, length, Some, Ok, Err, codes, Option, Result, ◌≢◌}
+use Rattle.std.specs.Prelude.{◌≡◌, ℕ, ◌+◌, ◌<◌, ◌≤◌, Bool, true, false, ◌↔◌, List, [], ◌∷◌, ◌++◌, length, Some, Ok, Err, codes, Option, ◌≢◌}
 use Rattle.text.specs.declared.fault.Fault.{Fault}
 use Rattle.text.specs.Names.{is_name}
 use Rattle.text.specs.Split.{split}

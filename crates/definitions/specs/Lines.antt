@@ -1,5 +1,5 @@
 -- What a line of a definition says, test by test, or what is wrong with it.
-use Rattle.std.specs.Prelude.{ℕ, ◌+◌, ◌-◌, Bool, cond, List, [], ◌∷◌, length, drop, pos, Some, None, Ok, Err, codes, Option, Result, ◌==◌, slice_index_or, unsigned_abs}
+use Rattle.std.specs.Prelude.{ℕ, ◌+◌, ◌-◌, Bool, cond, List, [], length, drop, pos, Some, None, Ok, Err, codes, Option, Result, ◌==◌, slice_index_or, unsigned_abs}
 use Rattle.std.specs.Option.{option_map}
 use Rattle.std.specs.Str.{bytes_eq}
 use Rattle.text.specs.declared.fault.Cause.TheVariants.{BadField, BadLine}

@@ -1,5 +1,5 @@
 -- What reading a definition from the front of a text answers, and what it leaves in the lent table.
-use Rattle.std.specs.Prelude.{◌≡◌, ℕ, ◌<◌, Bool, List, length, Ok, Err, Result}
+use Rattle.std.specs.Prelude.{◌≡◌, ℕ, ◌<◌, List, length, Ok, Err, Result}
 use Rattle.text.specs.declared.fault.Cause.TheVariants.{ShortMemory, Contradictory as Contradicts}
 use Rattle.text.specs.declared.fault.Fault.{Fault}
 use Rattle.text.specs.Faults.{fault_at}

@@ -1,5 +1,5 @@
 -- What reading one line, and reading a whole definition, answers in machine values.
-use Rattle.std.specs.Prelude.{◌≡◌, ℕ, ◌+◌, Bool, List, [], length, drop, Ok, Err, Result, slice_index_or}
+use Rattle.std.specs.Prelude.{◌≡◌, ℕ, ◌+◌, List, [], length, drop, Ok, Err, Result, slice_index_or}
 use Rattle.text.specs.declared.fault.Fault.{Fault}
 use Rattle.text.specs.Split.{split}
 use Rattle.definitions.specs.declared.reader.Definition.{Definition}

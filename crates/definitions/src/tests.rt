@@ -144,7 +144,7 @@ fn a_cycle_below_zero_is_refused_at_the_end(rt: HostRuntime) -> Result<(), Fail>
         line: 6,
         field: 0,
     };
-    assert_eq!(rt; faulty_line(&text, &fault), b"end");
+    assert_eq!(rt; faulty_line(&text, &fault), b"end".as_slice());
     Ok(())
 }
 

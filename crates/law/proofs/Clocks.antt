@@ -1,15 +1,14 @@
 -- Why clock calls do not count: a row that was ever held was held right after its last event.
-use Rattle.std.proofs.Common.{◌≡◌, ℕ, ◌+◌, ◌<◌, ◌≤◌, Bool, true, false, cond, eqb, ◌⊎◌, ◌↔◌, List, [], ◌∷◌, ◌++◌, length, Some, None, Option, sym, refl, ap, ◌∙◌, subst, inl, inr, ⊎_elim, arith}
-use Rattle.std.proofs.lemmas.Bool.{eqb-true, eqb-false, cond-false, ne_eqb}
+use Rattle.std.proofs.Common.{◌≡◌, ℕ, ◌+◌, Bool, true, false, cond, eqb, ◌⊎◌, List, [], ◌∷◌, length, Some, None, Option, sym, refl, ap, ◌∙◌, subst, inl, inr, ⊎_elim, arith}
+use Rattle.std.proofs.lemmas.Bool.{eqb-false}
 use Rattle.kinds.specs.Ordered.{Ordered}
-use Rattle.kinds.specs.declared.bound.Bound.TheVariants.{At}
 use Rattle.definitions.specs.Chronicles.{Chronicle}
 use Rattle.logs.specs.Events.{Event}
-use Rattle.law.specs.Bags.{◌∈◌, Exactly}
+use Rattle.law.specs.Bags.{◌∈◌}
 use Rattle.law.specs.Clocks.{without_clocks, NoWithdrawal, Alike, ClocksAlike, ClocksDoNotCount}
-use Rattle.law.specs.Histories.{Letter, R, D, Line, Act, load, withdraw, event, clock, Seen, Loading, now_of, event_count, loading_of, joined}
-use Rattle.law.specs.Holding.{at, width, Choice, NotBefore, HeldIn, Held, Recognised, Deadline}
-use Rattle.law.specs.Telling.{Goes, told_of, WasHeld, is, was, OwedAs, Owed, Lawful}
+use Rattle.law.specs.Histories.{Letter, R, D, Line, Act, load, withdraw, event, clock, Loading, now_of, event_count, loading_of, joined}
+use Rattle.law.specs.Holding.{at, HeldIn, Held}
+use Rattle.law.specs.Telling.{Goes, told_of, WasHeld, is, was, OwedAs, Lawful}
 use Rattle.law.proofs.Growing.{loading_with, choice_old, held_back}
 use Rattle.law.proofs.Numbers.{numbered-at}
 use Rattle.law.proofs.Ticks.{same_loading, no_loading}

@@ -7,8 +7,8 @@ use Rattle.kinds.specs.declared.bound.Bound.TheVariants.{At, NoBound}
 use Rattle.network.specs.Chains.{Chain, Closed, Contradictory}
 use Rattle.network.specs.Chains.Chain.{empty, step}
 use Rattle.definitions.specs.Chronicles.{Limit, Given}
-use Rattle.law.specs.Schedules.{Meets, Completes, Completable, Passes}
-use Rattle.law.proofs.Groups.{move_out, move_in, shift_left, sub_zero, zero_left}
+use Rattle.law.specs.Schedules.{Meets, Completable, Passes}
+use Rattle.law.proofs.Groups.{move_out, move_in, shift_left, sub_zero}
 
 module _ {G : Type 0} (O : Ordered G) (limits : List (Limit G)) where
   -- bounds that are met are met along every chain

@@ -1,12 +1,11 @@
 -- Why rows and recognitions with a new event come from those before it.
-use Rattle.std.proofs.Common.{◌≡◌, ℕ, zero, suc, ◌+◌, ◌<◌, ◌≤◌, true, ◌⊎◌, List, ◌∷◌, length, get_or, set, Some, None, Option, sym, refl, ap, ◌∙◌, subst, inl, inr, ⊎_elim, arith}
+use Rattle.std.proofs.Common.{◌≡◌, ℕ, zero, suc, ◌+◌, ◌<◌, true, ◌⊎◌, List, ◌∷◌, Some, None, Option, sym, ap, ◌∙◌, subst, inl, inr, ⊎_elim, arith}
 use Rattle.std.proofs.lemmas.List.{length-set, get_or-set_same, get_or-set_other}
 use Rattle.std.proofs.lemmas.Bool.{cases_eq, cases_lt}
 use Rattle.kinds.specs.Ordered.{Ordered}
-use Rattle.law.specs.Bags.{◌∈◌}
 use Rattle.law.specs.Forks.{left_out, Blank, ComesFromBefore}
 use Rattle.law.specs.Histories.{Seen, Loading}
-use Rattle.law.specs.Holding.{at, width, Fills, Choice, Agrees, NotBefore, HeldIn, Recognised}
+use Rattle.law.specs.Holding.{at, width, Fills, Choice, Agrees, NotBefore, HeldIn}
 use Rattle.law.specs.Schedules.{Meets}
 use Rattle.law.proofs.Growing.{loading_with}
 use Rattle.law.proofs.Numbers.{Numbered}

@@ -1,5 +1,5 @@
 -- Sums and differences across an order.
-use Rattle.std.proofs.Common.{◌≡◌, true, sym, refl, ap, ◌∙◌, subst}
+use Rattle.std.proofs.Common.{◌≡◌, true, sym, ap, ◌∙◌, subst}
 use Rattle.kinds.specs.Ordered.{Ordered}
 
 module _ {G : Type 0} (O : Ordered G) where

@@ -1,14 +1,13 @@
 -- What was a choice, held, recognised or due before an event is so after it, and back, where the event is not in it.
-use Rattle.std.proofs.Common.{◌≡◌, ℕ, ◌+◌, ◌<◌, ◌≤◌, true, ◌⊎◌, List, [], ◌∷◌, length, get_or, Some, None, Option, sym, refl, ap, ◌∙◌, subst, inl, inr, arith}
+use Rattle.std.proofs.Common.{◌≡◌, ℕ, ◌<◌, ◌≤◌, true, List, length, Some, None, Option, refl, inl, inr, arith}
 use Rattle.std.proofs.lemmas.Bool.{cases_eq}
-use Rattle.definitions.specs.Drafts.{Smallest}
 use Rattle.kinds.specs.Ordered.{Ordered}
 use Rattle.kinds.specs.declared.bound.Bound.{Bound}
 use Rattle.kinds.specs.declared.bound.Bound.TheVariants.{At, NoBound}
 use Rattle.definitions.specs.Chronicles.{Chronicle}
 use Rattle.law.specs.Bags.{◌∈◌}
 use Rattle.law.specs.Histories.{Seen, Loading}
-use Rattle.law.specs.Holding.{at, width, Fills, Choice, Agrees, NotBefore, HeldIn, Recognised, Latest, Deadline, HoldingShrinks}
+use Rattle.law.specs.Holding.{at, Fills, Choice, Agrees, NotBefore, HeldIn, Recognised, Latest, Deadline, HoldingShrinks}
 use Rattle.law.specs.Telling.{LastStamp}
 use Rattle.law.proofs.Numbers.{Numbered}
 

@@ -1,9 +1,9 @@
 -- The law of every history from what its calls owe.
-use Rattle.std.proofs.Common.{◌≡◌, List, [], ◌∷◌, ◌++◌, sym, refl, ap, ◌∙◌, subst}
+use Rattle.std.proofs.Common.{List, [], ◌∷◌, ◌++◌, sym, subst}
 use Rattle.kinds.specs.Ordered.{Ordered}
 use Rattle.kinds.specs.declared.kind.Kind.{Ghosts as Meaning}
 use Rattle.law.specs.Histories.{Act}
-use Rattle.law.specs.Laws.{Moment, Law, LawFollows}
+use Rattle.law.specs.Laws.{Moment, LawFollows}
 use Rattle.law.specs.Refusals.{Lent}
 use Rattle.law.specs.Telling.{Lawful}
 use Rattle.law.proofs.Clocks.{clocks_alike}

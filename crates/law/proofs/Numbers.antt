@@ -1,5 +1,5 @@
 -- Events of a loading have their own numbers, at most as many as were accepted.
-use Rattle.std.proofs.Common.{◌≡◌, ℕ, ◌+◌, ◌<◌, ◌≤◌, Bool, true, false, cond, eqb, ◌⊎◌, List, [], ◌∷◌, Some, None, Option, sym, refl, ap, ◌∙◌, subst, inl, inr, arith}
+use Rattle.std.proofs.Common.{◌≡◌, ℕ, ◌+◌, ◌<◌, ◌≤◌, Bool, true, false, cond, eqb, List, [], ◌∷◌, Some, None, Option, sym, refl, ap, ◌∙◌, subst, inl, inr, arith}
 use Rattle.law.specs.Bags.{◌∈◌}
 use Rattle.law.specs.Histories.{Act, load, withdraw, event, clock, Seen, Loading, event_count, loading_of, joined}
 

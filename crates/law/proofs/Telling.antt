@@ -1,16 +1,15 @@
 -- From what single calls owe: of each loading just the lines owed are told.
-use Rattle.std.proofs.Common.{◌≡◌, ℕ, zero, suc, ◌+◌, ◌<◌, ◌≤◌, Bool, true, false, cond, eqb, ◌⊎◌, ◌↔◌, List, [], ◌∷◌, ◌++◌, length, Some, None, Option, sym, refl, ap, ◌∙◌, subst, inl, inr, ⊎_elim, arith}
+use Rattle.std.proofs.Common.{◌≡◌, ℕ, zero, suc, ◌+◌, ◌<◌, Bool, true, false, cond, eqb, ◌⊎◌, List, [], ◌∷◌, ◌++◌, length, Some, None, Option, sym, refl, ap, ◌∙◌, subst, inl, inr, ⊎_elim, arith}
 use Rattle.std.proofs.lemmas.Bool.{cases_eq, cases_lt, eqb-true, eqb-false}
 use Rattle.kinds.specs.Ordered.{Ordered}
-use Rattle.kinds.specs.declared.bound.Bound.TheVariants.{At}
 use Rattle.definitions.specs.Chronicles.{Chronicle}
 use Rattle.logs.specs.Events.{Event}
-use Rattle.law.specs.Bags.{◌∈◌, Exactly}
+use Rattle.law.specs.Bags.{Exactly}
 use Rattle.law.specs.Histories.{Letter, R, D, Line, Act, load, withdraw, event, clock, Seen, Loading, now_of, event_count, loading_of, joined}
-use Rattle.law.specs.Holding.{at, width, Choice, NotBefore, HeldIn, Held, Recognised, Deadline}
-use Rattle.law.specs.Telling.{Row, Goes, New, of_slot, told_of, LastStamp, WasHeld, is, was, OwedAs, Owed, Reads, Tells, CallLine, Owes, Lawful}
-use Rattle.law.proofs.Growing.{loading_with, Old, choice_old}
-use Rattle.law.proofs.Numbers.{Numbered, numbered-at}
+use Rattle.law.specs.Holding.{at, NotBefore, HeldIn, Held, Recognised}
+use Rattle.law.specs.Telling.{Row, Goes, of_slot, told_of, WasHeld, is, was, OwedAs, Owed, Reads, Tells, CallLine, Lawful}
+use Rattle.law.proofs.Growing.{loading_with, choice_old}
+use Rattle.law.proofs.Numbers.{numbered-at}
 use Rattle.law.proofs.Sets.{exactly_none, held_or_not}
 use Rattle.law.proofs.Ticks.{same_loading, no_loading, tick_empty, tick_loaded}
 

@@ -1,11 +1,10 @@
 -- Why the tests on closed bounds decide.
-use Rattle.std.proofs.Common.{◌≡◌, ℕ, ◌<◌, Bool, true, false, not, eqb, ◌⊎◌, ◌↔◌, List, Some, sym, refl, ap, ◌∙◌, subst, inl, inr, ⊎_elim}
+use Rattle.std.proofs.Common.{◌≡◌, ℕ, ◌<◌, true, false, eqb, List, sym, ◌∙◌}
 use Rattle.std.proofs.lemmas.Bool.{eq-eqb, ne_eqb, eqb-true, eqb-false, not-true, not-false, not_from_true, not_from_false}
 use Rattle.kinds.specs.Ordered.{Ordered}
 use Rattle.kinds.specs.declared.bound.Bound.{Bound}
 use Rattle.law.specs.Histories.{Loading}
-use Rattle.law.specs.Holding.{at, width, Choice, Agrees, HeldIn, Recognised}
-use Rattle.law.specs.Schedules.{Completes, Completable, Passes}
+use Rattle.law.specs.Holding.{at, width, Choice, Agrees}
 use Rattle.law.specs.Tests.{is_filled, ClosedBy, TestsDecide}
 use Rattle.law.proofs.Extension.{completes_passes, passes_completes}
 

@@ -1,15 +1,15 @@
 -- What an event or clock call adds to the lines owed: just its own lines.
-use Rattle.std.proofs.Common.{◌≡◌, ℕ, ◌+◌, ◌<◌, ◌≤◌, Bool, true, false, cond, eqb, ◌⊎◌, ◌↔◌, List, [], ◌∷◌, ◌++◌, length, Some, None, Option, sym, refl, ap, ◌∙◌, subst, inl, inr, ⊎_elim, arith}
-use Rattle.std.proofs.lemmas.Bool.{cases_Bool, eqb-true, eqb-false, cond-false, ne_eqb}
+use Rattle.std.proofs.Common.{◌≡◌, ℕ, ◌+◌, ◌≤◌, eqb, ◌⊎◌, List, ◌∷◌, ◌++◌, length, Some, None, Option, sym, refl, ap, ◌∙◌, subst, inl, inr, ⊎_elim, arith}
+use Rattle.std.proofs.lemmas.Bool.{cond-false, ne_eqb}
 use Rattle.kinds.specs.Ordered.{Ordered}
 use Rattle.kinds.specs.declared.bound.Bound.TheVariants.{At}
 use Rattle.definitions.specs.Chronicles.{Chronicle}
 use Rattle.law.specs.Bags.{◌∈◌, Exactly}
 use Rattle.law.specs.Histories.{Letter, R, D, Line, Act, load, withdraw, event, clock, Seen, Loading, now_of, event_count, loading_of, joined}
-use Rattle.law.specs.Holding.{at, width, Choice, NotBefore, HeldIn, Held, Recognised, Deadline}
-use Rattle.law.specs.Telling.{Row, Goes, New, of_slot, told_of, LastStamp, WasHeld, is, was, OwedAs, Owed, Reads, CallLineAs, CallLine}
+use Rattle.law.specs.Holding.{Choice, NotBefore, HeldIn, Held, Recognised, Deadline}
+use Rattle.law.specs.Telling.{Goes, New, of_slot, told_of, LastStamp, WasHeld, is, was, OwedAs, Owed, CallLineAs, CallLine}
 use Rattle.law.proofs.Growing.{loading_with, Old, choice_old, choice_on, recognised_on, recognised_back, last_on, last_back, held_back, deadline_on, deadline_back}
-use Rattle.law.proofs.Numbers.{Numbered, numbered-at}
+use Rattle.law.proofs.Numbers.{numbered-at}
 use Rattle.law.proofs.Sets.{exactly_append, exactly_slot}
 
 pub same_loading : {G : Type 0} {o : Option (Loading G)} {l m : Loading G} → o ≡ Some l → o ≡ Some m → l ≡ m

@@ -1,5 +1,5 @@
 -- Where rows and recognitions with a new event come from.
-use Rattle.std.specs.Prelude.{◌≡◌, ℕ, ◌+◌, ◌<◌, ◌⊎◌, List, ◌∷◌, length, Some, Option, slice_set}
+use Rattle.std.specs.Prelude.{◌≡◌, ℕ, ◌+◌, ◌<◌, ◌⊎◌, List, ◌∷◌, Some, Option, slice_set}
 use Rattle.kinds.specs.Ordered.{Ordered}
 use Rattle.logs.specs.Events.{Event}
 use Rattle.law.specs.Histories.{Act, Seen, Loading, now_of, event_count, loading_of}

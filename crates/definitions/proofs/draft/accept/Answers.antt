@@ -1,6 +1,6 @@
-use Rattle.std.proofs.Common.{◌≡◌, sym, ap, ◌∙◌, subst}
+use Rattle.std.proofs.Common.{sym, subst}
 use Rattle.definitions.specs.Drafts.{Drafted, Admits, Agrees}
-use Rattle.definitions.specs.Items.{limit_by, said_by}
+use Rattle.definitions.specs.Items.{said_by}
 use Rattle.definitions.specs.Reading.{accepted}
 use Rattle.definitions.proofs.draft.accept.Goals as goal
 

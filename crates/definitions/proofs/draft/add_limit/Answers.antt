@@ -1,8 +1,6 @@
-use Rattle.std.proofs.Common.{◌≡◌, ◌<◌, ◌≤◌, true, cond, not, ◌&&◌, eqb, ltb, leb, length, sym, ap, ◌∙◌, subst, arith}
+use Rattle.std.proofs.Common.{◌≡◌, true, not, ◌&&◌, eqb, ltb, leb, length, sym, ap, ◌∙◌, arith}
 use Rattle.std.proofs.lemmas.Bool.{cond-true, and_from, le-leb, lt-ltb}
 use Rattle.std.proofs.lemmas.Bool.Decides.{when_true}
-use Rattle.definitions.specs.Chronicles.{Limit}
-use Rattle.definitions.specs.Drafts.{Drafted, Agrees}
 use Rattle.definitions.specs.Items.{limit_by}
 use Rattle.definitions.specs.Reading.{is_pair, with_limit}
 use Rattle.definitions.proofs.Drafting.{limit_added, agrees_ok, pair_inside}

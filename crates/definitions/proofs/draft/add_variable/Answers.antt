@@ -1,7 +1,6 @@
-use Rattle.std.proofs.Common.{◌≡◌, true, cond, ltb, length, Ok, Err, sym, ap, ◌∙◌, subst}
+use Rattle.std.proofs.Common.{ltb, length, sym, ap, ◌∙◌}
 use Rattle.std.proofs.lemmas.Bool.{cond-true}
 use Rattle.text.specs.Spelled.{spelled}
-use Rattle.definitions.specs.Drafts.{Drafted, Agrees}
 use Rattle.definitions.specs.Reading.{with_type}
 use Rattle.definitions.proofs.Drafting.{type_added, agrees_ok}
 use Rattle.definitions.proofs.draft.add_variable.Goals as goal

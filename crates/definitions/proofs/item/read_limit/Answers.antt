@@ -1,4 +1,4 @@
-use Rattle.std.proofs.Common.{◌≡◌, [], get_or, Err, sym, ap, ◌∙◌}
+use Rattle.std.proofs.Common.{[], get_or, Err, sym, ap, ◌∙◌}
 use Rattle.std.proofs.lemmas.Result.{err_from_is_err_and}
 use Rattle.text.specs.Split.{split}
 use Rattle.kinds.proofs.Means.{ok_or_ok, ok_or_err}

@@ -1,7 +1,7 @@
-use Rattle.std.proofs.Common.{◌≡◌, ◌+◌, ◌≤◌, length, drop, sym, ap, ◌∙◌, subst, arith, rules}
-use Rattle.std.proofs.lemmas.Result.{err_from_is_err_and, IfOk-from_err}
+use Rattle.std.proofs.Common.{◌+◌, length, drop, arith, rules}
+use Rattle.std.proofs.lemmas.Result.{err_from_is_err_and}
 use Rattle.text.specs.Split.{split}
-use Rattle.definitions.specs.Drafts.{Drafted, Admits}
+use Rattle.definitions.specs.Drafts.{Drafted}
 use Rattle.definitions.specs.Items.{said_by}
 use Rattle.definitions.specs.Steps.{line_end}
 use Rattle.definitions.proofs.Judging.{item_admits, step_refused, step_accepted}

@@ -1,9 +1,8 @@
-use Rattle.std.proofs.Common.{◌≡◌, ◌+◌, ◌≤◌, true, false, length, drop, Ok, Err, sym, refl, ap, ◌∙◌, subst, arith}
+use Rattle.std.proofs.Common.{◌+◌, drop, Ok, Err, sym, refl, ap, ◌∙◌, subst, arith}
 use Rattle.std.proofs.lemmas.Result.{err_from_is_err_and}
-use Rattle.network.specs.Tables.{Beyond}
 use Rattle.text.specs.Split.{split}
 use Rattle.definitions.specs.declared.reader.Definition.{Definition}
-use Rattle.definitions.specs.Drafts.{Empty, Held, Drafted}
+use Rattle.definitions.specs.Drafts.{Held}
 use Rattle.definitions.specs.Reading.{judged, read_from, blank}
 use Rattle.definitions.specs.Steps.{line_end, Parses}
 use Rattle.definitions.proofs.Drafting.{none_drafted}
