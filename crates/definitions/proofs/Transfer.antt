@@ -1,5 +1,5 @@
 -- Chains over a table that holds the smallest bounds, and chains over the bounds themselves, come to the same.
-use Rattle.std.proofs.Common.{◌≡◌, ℕ, ◌<◌, ◌≤◌, Bool, true, false, List, length, is_err, Ok, Err, MatchBool, Result, refl, ap, ◌∙◌, subst, ⊎_elim, arith}
+use Rattle.std.proofs.Common.{IfOk, ◌≡◌, ℕ, ◌<◌, ◌≤◌, Bool, true, false, List, length, is_err, Ok, Err, MatchBool, Result, refl, ap, ◌∙◌, subst, ⊎_elim, arith}
 use Rattle.std.proofs.lemmas.Bool.{false≢true, both_ways, cases_Bool}
 use Rattle.text.specs.declared.fault.Cause.TheVariants.{Contradictory as Contradicts}
 use Rattle.text.specs.declared.fault.Fault.{Fault}
@@ -125,3 +125,8 @@ pub when_refused : {K G : Type 0} (group : Ordered G) (value : K → G) (a : Res
 when_refused group value (Ok reading) P t0 t1 true e h = absurd h
 when_refused group value (Err f) P t0 t1 true e h = h
 when_refused group value a P t0 t1 false e h = h
+
+-- what closing a table leaves, where it is not refused
+pub when_ok : (r : Result (Unit {0}) Unclosed) {P : Type 0} → is_err r ≡ false → IfOk r (λ _. P) → P
+when_ok (Ok done) closed left = left
+when_ok (Err f) closed left = absurd (both_ways _ closed refl)

@@ -1,5 +1,6 @@
 // A definition read from the front of a text.
 ghost use Rattle.std.specs.Prelude.{◌≡◌, ◌<◌, ◌≤◌, length, drop, IfOk, MatchBool, nat_le};
+ghost use Rattle.network.specs.Steps.{Light};
 ghost use Rattle.network.specs.Tables.{Beyond};
 ghost use Rattle.text.specs.declared.fault.Cause.TheVariants.{Contradictory};
 ghost use Rattle.text.specs.Faults.{fault_at};
@@ -11,6 +12,7 @@ ghost use Rattle.definitions.specs.Drafts.{Empty, Held, Drafted};
 ghost use Rattle.definitions.specs.Grammar.{ReadAsMade};
 ghost use Rattle.definitions.specs.Loading.{TooShort, Loads};
 ghost use Rattle.definitions.specs.Steps.{line_end, Steps, Parses};
+ghost use Rattle.definitions.specs.TypeNames.{type_names};
 
 use crate::draft::{Draft, accept};
 use crate::item::{Item, read_item};
@@ -139,6 +141,7 @@ pub fn read<K: Kind>(
     ensures within { IfOk result (λ x. (0 < x.used) × (x.used ≤ length text.now)) }
     ensures as_made { ReadAsMade K.fields K.means K.bound loaded.now text.now }
     ensures loads { MatchBool (nat_le 64 (length table.old)) (Loads K.group K.value (reading_of K.fields K.means K.bound loaded.now text.now) table.new result) (TooShort table.old table.new result) }
+    ensures light { IfOk result (λ x. Light K.value K.weight (length (type_names x.types)) 256 table.new) }
 {
     let definition = parse(text, loaded, table)?;
     if close(table, definition.types.len()).is_err() {

@@ -24,17 +24,17 @@ numbered n P answer = P × (answer ≡ n)
 
 module _ {A : Type 0} where
   abbrev pub Fails : Ground A → Type 0
-  Fails ground = (answer : A) → ground answer → ⊥
+  Fails reason = (answer : A) → reason answer → ⊥
 
   -- no ground holds
   abbrev pub Accepts : List (Ground A) → Type 0
   Accepts [] = Unit {0}
-  Accepts (ground ∷ grounds) = Fails ground × Accepts grounds
+  Accepts (reason ∷ grounds) = Fails reason × Accepts grounds
 
   -- the first ground that holds gives the answer
   abbrev pub Refuses : List (Ground A) → A → Type 0
   Refuses [] answer = ⊥
-  Refuses (ground ∷ grounds) answer = ground answer ⊎ (Fails ground × Refuses grounds answer)
+  Refuses (reason ∷ grounds) answer = reason answer ⊎ (Fails reason × Refuses grounds answer)
 
   -- a call is refused by its first ground, and accepted exactly if it has none
   abbrev pub Decided : {B : Type 0} → List (Ground A) → Result B A → Type 0

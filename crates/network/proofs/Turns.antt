@@ -6,7 +6,7 @@ use Rattle.kinds.specs.Bounds.{join, at_most, admits, weighs, meant}
 use Rattle.kinds.specs.declared.bound.Bound.{Bound}
 use Rattle.kinds.specs.declared.bound.Bound.TheVariants.{At, NoBound}
 use Rattle.network.specs.Tables.{cell, entry, Tabled, Admitted, Elsewhere}
-use Rattle.network.specs.Steps.{Under, Lesser, Tightened, Relaxed, Grounded, Rounding, Round, Going, Light, Running, Ran}
+use Rattle.network.specs.Steps.{Under, Lesser, Tightened, Relaxed, Grounded, Rounding, Round, Going, Light, Running, Ran, StaysLight}
 use Rattle.kinds.specs.Weights.{Weighed}
 use Rattle.network.specs.Chains.{Chain}
 use Rattle.network.specs.Chains.Chain.{empty, step}
@@ -103,6 +103,11 @@ module _ {K G : Type 0} (O : Ordered G) (value : K → G) (weight : G → ℕ) {
 
   pub ran_all : (t u : List (Bound K)) → Running O value weight n n t u → Ran O value weight n t u true
   ran_all t u sofar = record { outcome = λ M start light. (sofar.going M start light).0; kept = sofar.kept }
+
+  pub stays_light : (t u : List (Bound K)) → Running O value weight n n t u → StaysLight O value weight n t u true
+  stays_light t u sofar M start light done =
+      let small : 2 ^ n ≤ 2 ^ 8 = pow_mono {i = n} {j = 8} n≤8 in
+      λ i j p q. omega (arith, (sofar.going M start light).1 i j p q)
 
 module _ {K G : Type 0} (O : Ordered G) (value : K → G) where
   pub both_kept : (n : ℕ) (t u v : List (Bound K)) → Grounded O value n t u → Elsewhere n u v → Elsewhere n t v

@@ -75,3 +75,7 @@ module _ {K G : Type 0} (O : Ordered G) (value : K → G) (weight : G → ℕ) (
   pub record Ran (t u : List (Bound K)) (done : Bool) : Type 0 where
     pub outcome : (M : List (Bound K)) → Going O (Tabled value n M) n 0 (entry value t) → Light value weight n 1 t → MatchBool done (Going O (Tabled value n M) n n (entry value u)) (Contradictory O (Tabled value n M))
     pub kept : Elsewhere n t u
+
+  -- bounds that were light before the rounds are still light enough to be added to a stamp when all are done
+  abbrev pub StaysLight : List (Bound K) → List (Bound K) → Bool → Type 0
+  StaysLight t u done = (M : List (Bound K)) → Going O (Tabled value n M) n 0 (entry value t) → Light value weight n 1 t → done ≡ true → Light value weight n 256 u

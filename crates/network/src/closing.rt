@@ -1,9 +1,9 @@
 // The closure of Floyd and Warshall over a lent table.
-ghost use Rattle.std.specs.Prelude.{◌≡◌, ℕ, ◌+◌, ◌*◌, ◌<◌, ◌≤◌, true, false, length, is_some, Some, Decides, ◌≢◌};
+ghost use Rattle.std.specs.Prelude.{◌≡◌, ℕ, ◌+◌, ◌*◌, ◌<◌, ◌≤◌, true, false, length, is_some, Some, Decides, ◌≢◌, IfOk};
 ghost use Rattle.kinds.specs.Bounds.{at_most, join, weighs, meant};
 ghost use Rattle.kinds.specs.declared.bound.Bound.TheVariants.{At, NoBound};
 ghost use Rattle.network.specs.Tables.{cell, entry, Inside, InRange};
-ghost use Rattle.network.specs.Steps.{Lesser, Relaxed, Rounding, Grounded, Ran};
+ghost use Rattle.network.specs.Steps.{Lesser, Relaxed, Rounding, Grounded, Ran, Light, StaysLight};
 ghost use Rattle.network.specs.Tables.{Admitted, Closes, Elsewhere};
 ghost use Rattle.kinds.specs.Bounds.{admits};
 
@@ -75,7 +75,8 @@ fn is_settled<K: Kind>(table: &[Bound<K>], k: usize) -> bool
 // The rounds of the closure; false where a cycle sums below zero.
 fn rounds<K: Kind>(table: &mut [Bound<K>], width: usize) -> bool
     requires { InRange width table.old }
-    ensures { Ran K.group K.value K.weight width table.old table.new result }
+    ensures ran { Ran K.group K.value K.weight width table.old table.new result }
+    ensures light { StaysLight K.group K.value K.weight width table.old table.new result }
 {
     for k in 0..width {
         // A cycle below zero shows here, before the round of its highest variable.
@@ -118,6 +119,7 @@ fn all_admitted<K: Kind>(table: &[Bound<K>], width: usize) -> bool
 pub fn close<K: Kind>(table: &mut [Bound<K>], width: usize) -> Result<(), Unclosed>
     ensures closes { Closes K.value K.group K.bound width table.old table.new result }
     ensures elsewhere { Elsewhere width table.old table.new }
+    ensures light { IfOk result (λ _. Light K.value K.weight width 256 table.new) }
 {
     if width < 1 || width > MOST_VARIABLES || table.len() < CELLS {
         return Err(Unclosed::OutOfRange);

@@ -1,5 +1,5 @@
 -- A choice that passes the tests, with one variable more filled: it passes exactly if the new stamp allows each variable.
-use Rattle.std.proofs.Common.{◌≡◌, ℕ, ◌<◌, Bool, true, false, cond, ◌⊎◌, sym, refl, ap, ◌∙◌, subst, inl, inr, ⊎_elim}
+use Rattle.std.proofs.Common.{◌≡◌, ℕ, ◌<◌, Bool, true, false, cond, sym, refl, ap, ◌∙◌, subst, ⊎_elim}
 use Rattle.std.proofs.lemmas.Bool.{both_ways, cases_Bool, cases_eq}
 use Rattle.kinds.specs.Bounds.{at_most, join}
 use Rattle.kinds.specs.Ordered.{Ordered}

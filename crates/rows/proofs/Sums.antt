@@ -1,8 +1,8 @@
 -- From the sums of stamps and closed bounds to latest stamps, by which chain whatever.
-use Rattle.std.proofs.Common.{◌≡◌, ℕ, ◌+◌, ◌<◌, ◌≤◌, Bool, true, cond, List, map, length, get_or, sym, refl, ap, ◌∙◌, subst, arith}
+use Rattle.std.proofs.Common.{◌≡◌, ℕ, ◌+◌, ◌<◌, ◌≤◌, Bool, true, cond, List, length, get_or, sym, refl, ap, ◌∙◌, subst, arith}
 use Rattle.std.proofs.lemmas.List.{get_or-map}
 use Rattle.std.proofs.lemmas.Bool.{false≢true}
-use Rattle.kinds.specs.Bounds.{at_most, join, meant, weighs}
+use Rattle.kinds.specs.Bounds.{at_most, join, weighs}
 use Rattle.kinds.specs.Ordered.{Ordered}
 use Rattle.kinds.specs.declared.bound.Bound.{Bound}
 use Rattle.kinds.specs.declared.bound.Bound.TheVariants.{At, NoBound}
@@ -12,8 +12,8 @@ use Rattle.network.specs.Tables.{entry, Inside}
 use Rattle.network.proofs.Order.{under_refl, join_mono}
 use Rattle.definitions.specs.Chronicles.{Given}
 use Rattle.definitions.specs.Drafts.{Smallest}
-use Rattle.law.specs.Histories.{Seen, Loading}
-use Rattle.law.specs.Holding.{at, width, Fills, Latest}
+use Rattle.law.specs.Histories.{Loading}
+use Rattle.law.specs.Holding.{width, Latest}
 use Rattle.law.specs.Tests.{is_filled}
 use Rattle.law.proofs.Tests.{filled_is, is_filled_lem}
 use Rattle.rows.specs.Filled.{is_in}

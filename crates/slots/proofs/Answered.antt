@@ -5,6 +5,7 @@ use Rattle.text.specs.declared.fault.Fault.{Fault}
 use Rattle.kinds.specs.declared.bound.Bound.{Bound}
 use Rattle.kinds.specs.declared.kind.Kind.{Ghosts as Meaning}
 use Rattle.network.specs.Chains.{Contradictory}
+use Rattle.network.specs.Steps.{Light}
 use Rattle.definitions.specs.declared.reader.Definition.{Definition}
 use Rattle.definitions.specs.Chronicles.{Given}
 use Rattle.definitions.specs.Loading.{ClosedTable, Loads as Reads}
@@ -53,7 +54,7 @@ module _ {K : Type 0} (kind : Meaning K) (text : List ℕ) (slots : Slots) where
   definition = reading_of kind.fields kind.means kind.bound (loaded_in slots) text
 
   abbrev ReadAs : List (Bound K) → Result Definition Fault → Type 0
-  ReadAs table r = Reads kind.group kind.value kind.weight definition table r
+  ReadAs table r = Reads kind.group kind.value definition table r
 
   module _ (lent : Lent) (a : List (Act kind.G)) (room : 512 ≤ lent.entries) (same : loaded_slots a ≡ loaded_in slots) where
     after_is : definition_after kind a text ≡ definition
@@ -62,7 +63,7 @@ module _ {K : Type 0} (kind : Meaning K) (text : List ℕ) (slots : Slots) where
     refuses : (table : List (Bound K)) (f : Fault) → ReadAs table (Err f) → Refuses (load_grounds kind lent a text) f
     refuses table f h = go definition refl h
       where
-        go : (o : Result (Reading kind.G) Fault) → definition ≡ o → Reads kind.group kind.value kind.weight o table (Err f) → Refuses (load_grounds kind lent a text) f
+        go : (o : Result (Reading kind.G) Fault) → definition ≡ o → Reads kind.group kind.value o table (Err f) → Refuses (load_grounds kind lent a text) f
         go (Ok r) is h = inr (λ answer p. omega (arith, p.0), inr (λ answer p. let z : ◌≡◌ {A = ℕ} 0 1 = cc (after_is, p, is) in omega arith, inl (r, after_is ∙ is, h.0, h.1)))
         go (Err e) is h = inr (λ answer p. omega (arith, p.0), inl (after_is ∙ is ∙ ap Err (sym h)))
 
@@ -90,10 +91,11 @@ module _ {K : Type 0} (kind : Meaning K) (text : List ℕ) (slots : Slots) where
     }
 
     pub load_accepted : (after : Slots) (x : Definition) → ReadAs (slot_table s new) (Ok x) → 0 < x.used → x.used ≤ length text →
+        Light kind.value kind.weight (length (type_names x.types)) 256 (slot_table s new) →
         MatchBool (is_slot s) (Changed s (Some (type_names x.types)) slots after) (after ≡ slots) → Loads kind text slots after old new (Ok x.used)
-    load_accepted after x h some within filled = go definition refl h
+    load_accepted after x h some within light filled = go definition refl h
       where
-        go : (o : Result (Reading kind.G) Fault) → definition ≡ o → Reads kind.group kind.value kind.weight o (slot_table s new) (Ok x) → Loads kind text slots after old new (Ok x.used)
+        go : (o : Result (Reading kind.G) Fault) → definition ≡ o → Reads kind.group kind.value o (slot_table s new) (Ok x) → Loads kind text slots after old new (Ok x.used)
         go (Err e) is h = absurd h
         go (Ok r) is h =
             let slot : r.chronicle.slot ≡ s = opened.only r is in
@@ -107,7 +109,8 @@ module _ {K : Type 0} (kind : Meaning K) (text : List ℕ) (slots : Slots) where
                 some = some;
                 within = within;
                 types = subst (λ n. Changed n (Some r.chronicle.types) slots after) (sym slot) (subst (λ ts. Changed s (Some ts) slots after) h.0.types changed);
-                closed = subst (λ n. ClosedTable kind.group kind.value kind.weight (slot_table n new) r.chronicle) (sym slot) h.1;
+                closed = subst (λ n. ClosedTable kind.group kind.value (slot_table n new) r.chronicle) (sym slot) h.1;
+                light = subst (λ n. Light kind.value kind.weight (length r.chronicle.types) 256 (slot_table n new)) (sym slot) (subst (λ ts. Light kind.value kind.weight (length ts) 256 (slot_table s new)) h.0.types light);
                 others = subst (λ n. OthersKept n old new) (sym slot) others;
               };
               memory = memory;

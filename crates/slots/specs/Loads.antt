@@ -3,6 +3,7 @@ use Rattle.std.specs.Prelude.{◌≡◌, ℕ, ◌-◌, ◌*◌, ◌<◌, ◌≤�
 use Rattle.text.specs.declared.fault.Fault.{Fault}
 use Rattle.kinds.specs.declared.bound.Bound.{Bound}
 use Rattle.kinds.specs.declared.kind.Kind.{Ghosts as Meaning}
+use Rattle.network.specs.Steps.{Light}
 use Rattle.definitions.specs.Loading.{ClosedTable}
 use Rattle.definitions.specs.Reading.{Reading, reading_of}
 use Rattle.law.specs.Calls.{loaded_slots}
@@ -28,7 +29,8 @@ module _ {K : Type 0} (kind : Meaning K) (text : List ℕ) (before after : Slots
     pub some : 0 < bytes
     pub within : bytes ≤ length text
     pub types : Changed reading.chronicle.slot (Some reading.chronicle.types) before after
-    pub closed : ClosedTable kind.group kind.value kind.weight (slot_table reading.chronicle.slot new) reading.chronicle
+    pub closed : ClosedTable kind.group kind.value (slot_table reading.chronicle.slot new) reading.chronicle
+    pub light : Light kind.value kind.weight (length reading.chronicle.types) 256 (slot_table reading.chronicle.slot new)
     pub others : OthersKept reading.chronicle.slot old new
 
   -- the slots are as they were, and so are the bounds of those that are loaded

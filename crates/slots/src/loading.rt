@@ -2,8 +2,10 @@
 ghost use Rattle.std.specs.Prelude.{◌≡◌, ◌-◌, ◌*◌, ◌<◌, ◌≤◌, length, IfOk, nat_le};
 ghost use Rattle.text.specs.declared.fault.Cause.TheVariants.{ShortMemory};
 ghost use Rattle.text.specs.Faults.{fault_at};
+ghost use Rattle.network.specs.Steps.{Light};
 ghost use Rattle.definitions.specs.Loading.{Loads as Reads};
 ghost use Rattle.definitions.specs.Reading.{reading_of};
+ghost use Rattle.definitions.specs.TypeNames.{type_names};
 ghost use Rattle.slots.specs.Loads.{slot_table, OthersKept, Loads};
 
 use crate::table::Slots;
@@ -49,7 +51,8 @@ fn read_into<K: Kind>(
 ) -> Result<Definition, Fault>
     requires { (1 ≤ slot) × ((slot ≤ 8) × (512 ≤ length entries.old)) }
     ensures within { IfOk result (λ x. (0 < x.used) × (x.used ≤ length text.now)) }
-    ensures reads { Reads K.group K.value K.weight (reading_of K.fields K.means K.bound loaded.now text.now) (slot_table slot entries.new) result }
+    ensures reads { Reads K.group K.value (reading_of K.fields K.means K.bound loaded.now text.now) (slot_table slot entries.new) result }
+    ensures light { IfOk result (λ x. Light K.value K.weight (length (type_names x.types)) 256 (slot_table slot entries.new)) }
     ensures others { OthersKept slot entries.old entries.new }
     ensures memory { length entries.new ≡ length entries.old }
 {

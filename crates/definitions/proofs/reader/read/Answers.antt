@@ -1,14 +1,16 @@
-use Rattle.std.proofs.Common.{◌≤◌, leb, length, Ok, Err, sym, ap, ◌∙◌, subst, arith}
+use Rattle.std.proofs.Common.{◌≡◌, ◌≤◌, false, is_err, leb, length, Ok, Err, sym, ap, ◌∙◌, subst, arith}
 use Rattle.std.proofs.lemmas.Result.{err_from_is_err_and}
+use Rattle.network.specs.Steps.{Light}
 use Rattle.network.specs.Tables.{Beyond}
 use Rattle.text.specs.Split.{split}
 use Rattle.definitions.specs.Drafts.{Held}
 use Rattle.definitions.specs.Loading.{Loads}
 use Rattle.definitions.specs.Reading.{reading_of, blank}
 use Rattle.definitions.specs.Steps.{Parses}
+use Rattle.definitions.specs.TypeNames.{type_names}
 use Rattle.definitions.proofs.Grammar.{read_as_made}
 use Rattle.definitions.proofs.Progress.{reading_some}
-use Rattle.definitions.proofs.Transfer.{answer, closing_loads, refused, taken, when_read, when_refused}
+use Rattle.definitions.proofs.Transfer.{answer, closing_loads, refused, taken, when_ok, when_read, when_refused}
 use Rattle.definitions.proofs.TypeNames.{names_length}
 use Rattle.definitions.proofs.reader.read.Given as given
 use Rattle.definitions.proofs.reader.read.Goals as goal
@@ -31,6 +33,10 @@ module _ (g : given.Over) (c : After-close g) where
       (λ reading e. reading_some m.fields m.means m.bound c.args.loaded.now 1 0 blank (split 10 c.args.text.now) reading e)
       parsed c.len.result c.len.ensures c.close.result c.close.ensures.closes
 
+  -- the table was closed, so its bounds are light
+  light : is_err c.close.result ≡ false → Light g.K.Kind.value g.K.Kind.weight (length (type_names c.in_ok-definition.definition.types)) 256 c.close.new.table
+  light closed = subst (λ n. Light g.K.Kind.value g.K.Kind.weight n 256 c.close.new.table) c.len.ensures (when_ok c.close.result closed c.close.ensures.light)
+
 pub returns-then-is_err : goal.returns-then-is_err
 returns-then-is_err g c =
     let m = g.K.Kind in
@@ -45,6 +51,7 @@ returns-then-is_err g c =
           (reading_of m.fields m.means m.bound c.args.loaded.now c.args.text.now) (Held m.group m.value m.bound c.parse.new.table) c.args.table.now c.parse.new.table (leb 64 (length c.args.table.now)) (Err c.contradiction.result)
           c.in_ok-definition.ensures.parses
           (λ parsed. subst (Loads m.group m.value (reading_of m.fields m.means m.bound c.args.loaded.now c.args.text.now) c.close.new.table) (err ∙ ap Err (sym c.contradiction.ensures)) (loads g at parsed));
+      light = tt;
     }
 
 pub returns : goal.returns
@@ -61,6 +68,7 @@ returns g c =
           (reading_of m.fields m.means m.bound c.args.loaded.now c.args.text.now) (Held m.group m.value m.bound c.parse.new.table) c.args.table.now c.parse.new.table (leb 64 (length c.args.table.now)) (Ok x)
           c.in_ok-definition.ensures.parses
           (λ parsed. subst (Loads m.group m.value (reading_of m.fields m.means m.bound c.args.loaded.now c.args.text.now) c.close.new.table) ok (loads g at parsed));
+      light = light g at (sym c.is_err.ensures.value ∙ c.if-is_err.false);
     }
 
 pub returns-in_err-definition : goal.returns-in_err-definition
@@ -74,4 +82,5 @@ returns-in_err-definition g c =
       within = tt;
       loads = when_refused m.group m.value (reading_of m.fields m.means m.bound c.args.loaded.now c.args.text.now) (Held m.group m.value m.bound c.parse.new.table)
           c.args.table.now c.parse.new.table (leb 64 (length c.args.table.now)) c.in_err-definition.field-0.0 told.parses;
+      light = tt;
     })

@@ -1,4 +1,4 @@
-use Rattle.std.proofs.Common.{◌≡◌, ◌<◌, ◌≤◌, ap, arith, rules}
+use Rattle.std.proofs.Common.{◌≤◌, ap, arith, rules}
 use lib.Bits.{bit_and}
 use lib.Count.{ones}
 use Rattle.rows.proofs.Bits.{open_and_set}
