@@ -1,5 +1,5 @@
 -- Head, stamp and line feed in a buffer.
-use Rattle.std.proofs.Common.{◌≡◌, ℕ, ◌+◌, ◌-◌, ◌<◌, ◌≤◌, List, [], ◌∷◌, ◌++◌, length, take, drop, set, Some, None, sym, refl, ap, ◌∙◌, arith}
+use Rattle.std.proofs.Common.{◌≡◌, ℕ, ◌+◌, ◌<◌, ◌≤◌, List, [], ◌∷◌, ◌++◌, length, take, drop, set, Some, None, sym, ap, ◌∙◌, arith}
 use Rattle.std.proofs.lemmas.List.{append_assoc, length-append, length-take-le, take-append-drop}
 use Rattle.text.specs.Writing.{place_after, pasted}
 use Rattle.report.proofs.Laid.{laid, pasted_is, pasted_not, place_is, place_not, refused, accepted, length_laid, laid_part, laid_behind, laid_before, set_laid}

@@ -46,7 +46,7 @@ fn a_stamp_may_take_two_fields(rt: HostRuntime) {
 fn a_wide_line_has_eight_events(rt: HostRuntime) {
     let mut out = [0u8; 40];
     assert_eq!(rt; recognised(0, 255, 9).write(&mut out, 0), Ok(32));
-    assert!(rt; &out[0..32] == b"R\t0\t1\t20\t3\t4\t5\t6\t7\t4294967295\t9\n");
+    assert!(rt; &out[0..32] == b"R\t0\t1\t20\t3\t4\t5\t6\t7\t4294967295\t9\n".as_slice());
 }
 
 #[test]

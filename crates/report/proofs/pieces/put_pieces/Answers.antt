@@ -1,4 +1,4 @@
-use Rattle.std.proofs.Common.{◌≡◌, ◌+◌, ◌-◌, ◌<◌, length, ◌∙◌, arith}
+use Rattle.std.proofs.Common.{◌≡◌, ◌+◌, ◌-◌, length, ◌∙◌, arith}
 use Rattle.report.proofs.Wholes.{text_length, nowhere, nothing, too_short, as_it_was, somewhere, all_there}
 use Rattle.report.proofs.pieces.put_pieces.Goals as goal
 
