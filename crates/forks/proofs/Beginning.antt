@@ -1,28 +1,27 @@
 -- Slots with nothing filled take an event, one after another.
-use Rattle.std.proofs.Common.{◌≡◌, ℕ, ◌+◌, ◌<◌, ◌≤◌, min, Bool, true, false, ◌⊎◌, ◌↔◌, List, [], ◌∷◌, ◌++◌, map, length, get_or, replicate, is_some as option_is_some, Some, None, Option, sym, refl, ap, ◌∙◌, subst, inl, inr, ⊎_elim, arith}
+use Rattle.std.proofs.Common.{◌≡◌, ℕ, ◌≤◌, true, false, ◌⊎◌, ◌↔◌, List, [], ◌∷◌, ◌++◌, get_or, replicate, is_some as option_is_some, Some, None, Option, sym, refl, ap, ◌∙◌, subst, inl, inr, ⊎_elim}
 use Rattle.std.proofs.ByRecursion.{All-append}
 use Rattle.std.proofs.lemmas.List.{map-append, append-nil, append_assoc, get_or-replicate}
-use Rattle.std.proofs.lemmas.Bool.{cases_lt, both_ways}
+use Rattle.std.proofs.lemmas.Bool.{both_ways}
 use Rattle.kinds.specs.declared.kind.Kind.{Ghosts as Meaning}
 use Rattle.logs.specs.Events.{Event}
-use Rattle.law.specs.Bags.{Exactly}
 use Rattle.law.specs.Each.{Each}
 use Rattle.law.specs.Each.Each.{none, more}
 use Rattle.law.specs.Forks.{Blank}
 use Rattle.law.specs.Histories.{Act, event, Loading, loading_of}
 use Rattle.law.specs.Holding.{width}
-use Rattle.law.specs.Steps.{SmallSlots, Begins}
+use Rattle.law.specs.Steps.{Begins}
 use Rattle.law.specs.Telling.{Row as HeldRow}
 use Rattle.law.proofs.Counting.{exactly_as}
 use Rattle.law.proofs.Sets.{exactly_none, exactly_one, exactly_append}
-use Rattle.law.proofs.Ticks.{same_loading, no_loading}
+use Rattle.law.proofs.Ticks.{same_loading}
 use Rattle.slots.specs.Slots.{types_in}
 use Rattle.slots.specs.Variables.{width as width_in}
 use Rattle.slots.specs.declared.table.Slots.{Slots}
 use Rattle.report.specs.declared.line.Line.{Line}
 use Rattle.report.specs.Lines.{line_of}
 use Rattle.forks.specs.declared.row.Row.{Row}
-use Rattle.forks.specs.Rows.{choice_of, row_of, Standing, InLoading}
+use Rattle.forks.specs.Rows.{row_of, InLoading}
 use Rattle.forks.specs.Spreads.{SpreadOf, Spread, LoadedAs, Loaded, Begun}
 use Rattle.forks.proofs.Spreading.{spread_none, spread_more}
 

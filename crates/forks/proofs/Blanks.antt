@@ -1,13 +1,11 @@
 -- A row with nothing filled stands for the blank choice of its loading.
-use Rattle.std.proofs.Common.{◌≡◌, ℕ, ◌<◌, ◌≤◌, true, false, List, length, get_or, replicate, sym, refl, ap, ◌∙◌, subst, arith}
+use Rattle.std.proofs.Common.{◌≡◌, ℕ, ◌<◌, ◌≤◌, false, List, length, replicate, sym, ◌∙◌, arith}
 use Rattle.std.proofs.lemmas.List.{get_or-replicate}
 use Rattle.std.proofs.lemmas.Bool.{both_ways}
 use Rattle.kinds.specs.Ordered.{Ordered}
 use Rattle.kinds.specs.declared.bound.Bound.TheVariants.{NoBound}
-use Rattle.law.specs.Forks.{Blank}
 use Rattle.law.specs.Histories.{Loading}
 use Rattle.law.specs.Holding.{at, width, Deadline}
-use Rattle.law.specs.Tests.{is_filled}
 use Rattle.law.proofs.Places.{blank_choice, blank_agrees}
 use Rattle.law.proofs.Tests.{open_is}
 use Rattle.rows.specs.Filled.{is_in}

@@ -1,6 +1,6 @@
 -- Rows that stay or end, one after another.
-use Rattle.std.proofs.Common.{◌≡◌, ℕ, zero, suc, ◌+◌, ◌<◌, ◌≤◌, ◌↔◌, List, [], ◌∷◌, ◌++◌, map, length, get_or, take, Some, None, Option, sym, refl, ap, ◌∙◌, subst, inl, inr, arith}
-use Rattle.std.specs.List.{AllByRecursion as All, slice_get}
+use Rattle.std.proofs.Common.{◌≡◌, ℕ, zero, suc, ◌+◌, ◌<◌, ◌≤◌, ◌↔◌, List, [], ◌∷◌, ◌++◌, map, length, get_or, take, Some, None, Option, sym, ap, ◌∙◌, subst, inl, inr, arith}
+use Rattle.std.specs.List.{slice_get}
 use Rattle.std.proofs.ByRecursion.{All-get_or, All-push}
 use Rattle.std.proofs.lemmas.List.{map_push, take_more, take_all}
 use Rattle.std.proofs.lemmas.Option.{slice_get-get_or}
@@ -9,17 +9,16 @@ use Rattle.kinds.specs.declared.kind.Kind.{Ghosts as Meaning}
 use Rattle.logs.specs.Events.{Event}
 use Rattle.lent.specs.Taking.{Adds}
 use Rattle.law.specs.Bags.{◌∈◌}
-use Rattle.law.specs.Histories.{Line as MeantLine, Act, event, clock, Loading, now_of, loading_of}
+use Rattle.law.specs.Histories.{Act, event, clock, now_of}
 use Rattle.law.specs.Holding.{Held, HeldIn}
 use Rattle.law.specs.Steps.{Buried}
 use Rattle.law.specs.Steps.Buried.{none, stays, ends}
-use Rattle.law.specs.Telling.{Row as HeldRow}
 use Rattle.law.proofs.Events.{held_after}
 use Rattle.law.proofs.Ticks.{same_loading}
 use Rattle.report.specs.declared.line.Line.{Line}
 use Rattle.report.specs.Lines.{line_of}
 use Rattle.forks.specs.declared.row.Row.{Row}
-use Rattle.forks.specs.Rows.{choice_of, row_of, Standing, Ends, EndsAt, InLoading}
+use Rattle.forks.specs.Rows.{choice_of, row_of, Ends, EndsAt, InLoading}
 use Rattle.forks.specs.Ends.{PassesTo, Before, Settles}
 
 module _ {G : Type 0} (group : Ordered G) (a : List (Act G)) where

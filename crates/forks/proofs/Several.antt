@@ -1,22 +1,20 @@
 -- What several places of a parent come to: the parts, one after another.
-use Rattle.std.proofs.Common.{◌≡◌, ℕ, ◌+◌, ◌<◌, ◌≤◌, ◌⊎◌, ◌↔◌, List, [], ◌∷◌, ◌++◌, map, length, get_or, set, Some, sym, refl, ap, ◌∙◌, subst, inl, inr, ⊎_elim, arith}
+use Rattle.std.proofs.Common.{◌≡◌, ℕ, ◌+◌, ◌<◌, ◌⊎◌, ◌↔◌, List, [], ◌++◌, map, sym, ap, ◌∙◌, subst, inl, inr, ⊎_elim, arith}
 use Rattle.std.proofs.ByRecursion.{All-append}
 use Rattle.std.proofs.lemmas.List.{map-append, get_or-set_same, get_or-set_other}
 use Rattle.std.proofs.lemmas.Bool.{cases_lt}
 use Rattle.kinds.specs.declared.bound.Bound.{Bound}
 use Rattle.kinds.specs.declared.kind.Kind.{Ghosts as Meaning}
 use Rattle.law.specs.Bags.{Exactly}
-use Rattle.law.specs.Histories.{R, Line as MeantLine, Seen, Loading}
-use Rattle.law.specs.Holding.{at, width, HeldIn, Recognised}
-use Rattle.law.specs.Telling.{Row as HeldRow}
+use Rattle.law.specs.Histories.{Seen, Loading}
+use Rattle.law.specs.Holding.{at, width}
 use Rattle.law.proofs.Sets.{exactly_append}
-use Rattle.rows.specs.Placings.{loading_plus, choice_plus}
 use Rattle.report.specs.declared.line.Line.{Line}
 use Rattle.report.specs.Lines.{line_of}
 use Rattle.forks.specs.declared.row.Row.{Row}
 use Rattle.forks.specs.declared.row.Arrival.{Arrival}
 use Rattle.forks.specs.Forks.{PutAt, PutBefore, Put, Parent, Forked}
-use Rattle.forks.specs.Rows.{choice_of, row_of, Standing}
+use Rattle.forks.specs.Rows.{choice_of, row_of}
 use Rattle.forks.proofs.Single.{forked_none}
 
 module _ {K : Type 0} (kind : Meaning K) (l : Loading kind.G) (e : Seen kind.G) where

@@ -1,12 +1,11 @@
 -- What one parent and one variable come to: nothing, one row, or one line.
-use Rattle.std.proofs.Common.{◌≡◌, ℕ, ◌<◌, true, false, ◌⊎◌, List, [], ◌∷◌, map, get_or, Some, sym, refl, ap, ◌∙◌, subst, inl, inr, ⊎_elim}
+use Rattle.std.proofs.Common.{◌≡◌, ℕ, true, false, List, [], ◌∷◌, Some, sym, refl, ◌∙◌, subst, inl, ⊎_elim}
 use Rattle.std.proofs.lemmas.Bool.{both_ways}
 use Rattle.kinds.specs.declared.bound.Bound.{Bound}
 use Rattle.kinds.specs.declared.kind.Kind.{Ghosts as Meaning}
-use Rattle.law.specs.Bags.{◌∈◌, Exactly}
-use Rattle.law.specs.Histories.{R, Line as MeantLine, Seen, Loading}
-use Rattle.law.specs.Holding.{at, width, HeldIn, Recognised}
-use Rattle.law.specs.Telling.{Row as HeldRow}
+use Rattle.law.specs.Bags.{Exactly}
+use Rattle.law.specs.Histories.{R, Seen, Loading}
+use Rattle.law.specs.Holding.{HeldIn, Recognised}
 use Rattle.law.proofs.Sets.{exactly_none}
 use Rattle.law.proofs.Tests.{open_is, is_open}
 use Rattle.rows.specs.Filled.{is_in}
@@ -17,7 +16,7 @@ use Rattle.report.specs.Lines.{line_of}
 use Rattle.forks.specs.declared.row.Row.{Row}
 use Rattle.forks.specs.declared.row.Arrival.{Arrival}
 use Rattle.forks.specs.Forks.{PutAt, Parent, Forked}
-use Rattle.forks.specs.Rows.{choice_of, row_of, Standing, Grown, recognition}
+use Rattle.forks.specs.Rows.{choice_of, row_of, Grown, recognition}
 
 exactly_one : {X : Type 0} (P : X → Type 0) (x : X) → P x → ((y : X) → P y → x ≡ y) → Exactly P (x ∷ [])
 exactly_one P x p only = record {

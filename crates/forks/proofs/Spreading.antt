@@ -1,5 +1,5 @@
 -- What one parent is forked into is what the event makes of it, for the calls that were accepted.
-use Rattle.std.proofs.Common.{◌≡◌, ℕ, ◌+◌, ◌-◌, ◌*◌, ◌/◌, ◌<◌, ◌≤◌, true, false, ◌⊎◌, List, [], ◌∷◌, ◌++◌, map, length, get_or, drop, Some, sym, refl, ap, ◌∙◌, subst, inl, inr, ⊎_elim, arith}
+use Rattle.std.proofs.Common.{◌≡◌, ℕ, ◌-◌, ◌*◌, ◌/◌, ◌<◌, ◌≤◌, ◌⊎◌, List, [], ◌∷◌, ◌++◌, map, length, get_or, drop, Some, sym, ap, ◌∙◌, subst, arith}
 use Rattle.std.proofs.ByRecursion.{All-weaker, All-append}
 use Rattle.std.proofs.lemmas.List.{length-take, length-drop, map-append}
 use Rattle.std.proofs.lemmas.Bool.Decides.{Decides-at}
@@ -9,8 +9,8 @@ use Rattle.logs.specs.Events.{Event}
 use Rattle.law.specs.Bags.{Exactly}
 use Rattle.law.specs.Each.{Each}
 use Rattle.law.specs.Each.Each.{none, more}
-use Rattle.law.specs.Histories.{R, Line as MeantLine, Act, event, Seen, Loading, event_count, loading_of}
-use Rattle.law.specs.Holding.{at, width, HeldIn, Recognised}
+use Rattle.law.specs.Histories.{R, Line as MeantLine, Act, event, Loading, loading_of}
+use Rattle.law.specs.Holding.{width, HeldIn, Recognised}
 use Rattle.law.specs.Steps.{Takes, ForkOf, RipeOf}
 use Rattle.law.specs.Telling.{Row as HeldRow}
 use Rattle.law.proofs.Counting.{exactly_as}
@@ -28,7 +28,7 @@ use Rattle.report.specs.Lines.{line_of}
 use Rattle.forks.specs.declared.row.Row.{Row}
 use Rattle.forks.specs.declared.row.Arrival.{Arrival}
 use Rattle.forks.specs.declared.wanted.Wanted.{Wanted}
-use Rattle.forks.specs.Forks.{PutAt, Put, Parent as ForkParent, Forked}
+use Rattle.forks.specs.Forks.{Put, Parent as ForkParent, Forked}
 use Rattle.forks.specs.Wanting.{mask_of}
 use Rattle.forks.specs.Rows.{choice_of, row_of, Standing, InLoading}
 use Rattle.forks.specs.Spreads.{numbered, Ready, SpreadOf, Spread}

@@ -1,5 +1,5 @@
 -- A survey of rows, one after another: one that ends counts for nothing, and one that stays takes the event.
-use Rattle.std.proofs.Common.{◌≡◌, ℕ, ◌+◌, ◌<◌, ◌≤◌, List, [], ◌∷◌, ◌++◌, map, length, take, Some, None, Option, sym, refl, ap, ◌∙◌, subst, inr, arith}
+use Rattle.std.proofs.Common.{◌≡◌, ℕ, ◌+◌, ◌<◌, ◌≤◌, List, [], ◌∷◌, ◌++◌, map, length, Some, None, Option, sym, refl, ◌∙◌, subst, inr, arith}
 use Rattle.std.proofs.lemmas.List.{length_push, map_push, take_all}
 use Rattle.std.specs.List.{slice_get}
 use Rattle.kinds.specs.declared.bound.Bound.{Bound}

@@ -1,6 +1,6 @@
 -- What the time of a call makes of rows: each stays, or ends with its line.
 use Rattle.std.specs.Prelude.{◌≡◌, ℕ, ◌↔◌, List, ◌∷◌, map, Some}
-use Rattle.std.specs.List.{AllByRecursion as All}
+use Rattle.std.specs.List.{AllByRecursion}
 use Rattle.kinds.specs.Ordered.{Ordered}
 use Rattle.kinds.specs.declared.bound.Bound.{Bound}
 use Rattle.kinds.specs.declared.kind.Kind.{Ghosts as Meaning}
@@ -29,11 +29,11 @@ module _ {K : Type 0} (kind : Meaning K) where
     pub closable : Closable kind.group a
     pub passes : PassesTo kind.group a act x
     pub reads : Reads kind.group a (map row_of rows)
-    pub standing : All (InLoading kind a) rows
+    pub standing : AllByRecursion (InLoading kind a) rows
 
   -- of the rows seen so far, those kept stay at x, and the lines of the others went from the sink l to l'
   pub record Settles {L : Type 0} (took : L → List (Line K) → L → Type 0) (x : kind.G) (rows seen kept : List (Row K)) (l l' : L) : Type 0 where
     pub dead : List (Line K)
     pub told : took l dead l'
     pub buried : (a : List (Act kind.G)) (act : Act kind.G) → Before a act x rows → Buried kind.group a act (map row_of seen) (map row_of kept) (map (line_of kind.value) dead)
-    pub standing : (a : List (Act kind.G)) (act : Act kind.G) → Before a act x rows → All (InLoading kind a) kept
+    pub standing : (a : List (Act kind.G)) (act : Act kind.G) → Before a act x rows → AllByRecursion (InLoading kind a) kept

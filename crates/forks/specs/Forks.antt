@@ -1,6 +1,6 @@
 -- What a new event makes of one parent: rows that it grows, and lines of what it ripens.
 use Rattle.std.specs.Prelude.{◌≡◌, ℕ, ◌<◌, ◌⊎◌, List, [], map, Some, Decides, slice_index_or}
-use Rattle.std.specs.List.{AllByRecursion as All}
+use Rattle.std.specs.List.{AllByRecursion}
 use Rattle.kinds.specs.declared.bound.Bound.{Bound}
 use Rattle.kinds.specs.declared.kind.Kind.{Ghosts as Meaning}
 use Rattle.law.specs.Bags.{◌∈◌, Exactly}
@@ -47,7 +47,7 @@ module _ {K : Type 0} (kind : Meaning K) where
   -- of the choices that Q names, just those held are born as rows of the slot, and just those recognised are told as lines
   pub record Forked (l : Loading kind.G) (e : Seen kind.G) (Q : List ℕ → Type 0) (slot : ℕ) (born : List (Row K)) (ripe : List (Line K)) : Type 0 where
     pub rows : Exactly (λ (r : HeldRow). (r.slot ≡ slot) × Q r.choice × HeldIn kind.group (loading_plus l e) (Some e.seen.stamp) r.choice) (map row_of born)
-    pub standing : All (λ r. (r.slot ≡ slot) × Standing kind (loading_plus l e) r) born
+    pub standing : AllByRecursion (λ r. (r.slot ≡ slot) × Standing kind (loading_plus l e) r) born
     pub lines : Exactly (λ (x : MeantLine kind.G). (x.letter ≡ R) × (x.slot ≡ slot) × (x.stamp ≡ e.seen.stamp) × Q x.choice × Recognised kind.group (loading_plus l e) x.choice) (map (line_of kind.value) ripe)
 
 -- rows and lines went into their sinks, and P says which

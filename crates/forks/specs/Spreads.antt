@@ -1,6 +1,6 @@
 -- What the next event makes of all its parents: of each the rows that it grows and the lines that it ripens.
 use Rattle.std.specs.Prelude.{◌≡◌, ℕ, ◌+◌, ◌<◌, ◌≤◌, ◌⊎◌, List, [], ◌∷◌, map, length, take, Some, None, Decides, Option, slice_index_or}
-use Rattle.std.specs.List.{AllByRecursion as All}
+use Rattle.std.specs.List.{AllByRecursion}
 use Rattle.kinds.specs.declared.bound.Bound.{Bound}
 use Rattle.kinds.specs.declared.kind.Kind.{Ghosts as Meaning}
 use Rattle.logs.specs.Events.{Event}
@@ -46,13 +46,13 @@ module _ {K : Type 0} (kind : Meaning K) (a : List (Act kind.G)) (e : Event kind
   pub record SpreadOf (parent : HeldRow) (born : List (Row K)) (ripe : List (Line K)) : Type 0 where
     pub forks : Exactly (ForkOf kind.group a e parent) (map row_of born)
     pub ripens : Exactly (RipeOf kind.group a e parent) (map (line_of kind.value) ripe)
-    pub standing : All (InLoading kind (event e [] ∷ a)) born
+    pub standing : AllByRecursion (InLoading kind (event e [] ∷ a)) born
 
   -- what it makes of these parents
   pub record Spread (parents : List HeldRow) (born : List (Row K)) (ripe : List (Line K)) : Type 0 where
     pub forks : Each (λ p rs. Exactly (ForkOf kind.group a e p) rs) parents (map row_of born)
     pub ripens : Each (λ p xs. Exactly (RipeOf kind.group a e p) xs) parents (map (line_of kind.value) ripe)
-    pub standing : All (InLoading kind (event e [] ∷ a)) born
+    pub standing : AllByRecursion (InLoading kind (event e [] ∷ a)) born
 
 abbrev pub LoadedAs : {G : Type 0} → Option (Loading G) → Option (List (List ℕ)) → Type 0
 LoadedAs None types = types ≡ None

@@ -1,5 +1,5 @@
 -- Which variables an event's type fits, as bits.
-use Rattle.std.specs.Prelude.{◌≡◌, ℕ, ◌-◌, ◌<◌, false, cond, ◌&&◌, List, Decides, Option, slice_index_or}
+use Rattle.std.specs.Prelude.{ℕ, ◌-◌, ◌<◌, cond, List, Decides, Option, slice_index_or}
 use Rattle.slots.specs.Slots.{is_slot}
 use Rattle.slots.specs.Variables.{HasType}
 use Rattle.rows.specs.Filled.{is_in}

@@ -1,6 +1,6 @@
 // An event spread over its parents: the rows that stay, and each loaded slot with nothing filled.
 ghost use Rattle.std.specs.Prelude.{◌≡◌, List, map, length};
-ghost use Rattle.std.specs.List.{AllByRecursion as All};
+ghost use Rattle.std.specs.List.{AllByRecursion};
 ghost use Rattle.lent.specs.Storing.{stored};
 ghost use Rattle.logs.specs.Events.{Event};
 ghost use Rattle.law.specs.Histories.{Act};
@@ -19,6 +19,7 @@ use lent::list::Lent;
 use lent::sink::Sink;
 use report::line::Line;
 use slots::table::Slots;
+use std::marker::PhantomData;
 
 // What the event makes of one parent.
 pub fn spread_one<K: Kind, R: Sink<Row<K>>, L: Sink<Line<K>>>(
@@ -70,7 +71,7 @@ pub fn spread_rows<K: Kind, L: Sink<Line<K>>>(
     arrival: &Arrival<K>,
     lines: &mut L,
 )
-    ensures { Sunk stored L.Sink.took rows.old rows.new lines.old lines.new (λ born ripe. (a : List (Act K.G)) (e : Event K.G) → Ready K.Kind a e entries.now wanted.now arrival.now → All (Alive K.Kind a e) (held rows.old) → Spread K.Kind a e (map row_of (held rows.old)) born ripe) }
+    ensures { Sunk stored L.Sink.took rows.old rows.new lines.old lines.new (λ born ripe. (a : List (Act K.G)) (e : Event K.G) → Ready K.Kind a e entries.now wanted.now arrival.now → AllByRecursion (Alive K.Kind a e) (held rows.old) → Spread K.Kind a e (map row_of (held rows.old)) born ripe) }
 {
     for i in 0..rows.len() {
         let Some(row) = rows.get(i) else {
@@ -80,7 +81,7 @@ pub fn spread_rows<K: Kind, L: Sink<Line<K>>>(
     }
 }
 
-// What the event makes of one slot with nothing filled, where it is loaded.
+// What the event makes of one slot with nothing filled, where it is loaded. The last argument asks only that a row has a size.
 fn spread_slot<K: Kind, R: Sink<Row<K>>, L: Sink<Line<K>>>(
     slots: &Slots,
     slot: u8,
@@ -89,6 +90,7 @@ fn spread_slot<K: Kind, R: Sink<Row<K>>, L: Sink<Line<K>>>(
     arrival: &Arrival<K>,
     rows: &mut R,
     lines: &mut L,
+    sized: PhantomData<Row<K>>,
 )
     ensures { Sunk R.Sink.took L.Sink.took rows.old rows.new lines.old lines.new (λ born ripe. (a : List (Act K.G)) (e : Event K.G) → Ready K.Kind a e entries.now wanted.now arrival.now → Loaded a slots.now → Begun K.Kind a e (λ r. r.slot ≡ slot) born ripe) }
 {
@@ -108,10 +110,11 @@ pub fn spread_slots<K: Kind, R: Sink<Row<K>>, L: Sink<Line<K>>>(
     arrival: &Arrival<K>,
     rows: &mut R,
     lines: &mut L,
+    sized: PhantomData<Row<K>>,
 )
     ensures { Sunk R.Sink.took L.Sink.took rows.old rows.new lines.old lines.new (λ born ripe. (a : List (Act K.G)) (e : Event K.G) → Ready K.Kind a e entries.now wanted.now arrival.now → Loaded a slots.now → Begun K.Kind a e (λ r. Unit {0}) born ripe) }
 {
     for slot in 1..9u8 {
-        spread_slot(slots, slot, entries, wanted, arrival, rows, lines);
+        spread_slot(slots, slot, entries, wanted, arrival, rows, lines, sized);
     }
 }

@@ -1,7 +1,7 @@
-use Rattle.std.proofs.Common.{◌≡◌, ◌+◌, ◌<◌, ◌≤◌, length, sym, ap, ◌∙◌, subst, arith}
-use Rattle.lent.specs.Lists.{memory, held}
+use Rattle.std.proofs.Common.{◌<◌, ◌≤◌, length, sym, ap, ◌∙◌, subst, arith}
+use Rattle.lent.specs.Lists.{held}
 use Rattle.forks.specs.Rows.{EndsAt}
-use Rattle.forks.proofs.Burying.{Compacts, compacts_none, compacts_stays, compacts_ends, compacts_past, compacts_all}
+use Rattle.forks.proofs.Burying.{compacts_none, compacts_stays, compacts_ends, compacts_past, compacts_all}
 use Rattle.forks.proofs.ends.bury.Goals as goal
 use Rattle.forks.proofs.ends.bury.Goals.{else-loop-i-test, then-loop-i-test+in_default}
 

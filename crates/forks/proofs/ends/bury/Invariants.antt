@@ -1,5 +1,3 @@
-use Rattle.std.proofs.Common.{◌≡◌}
-use Rattle.lent.specs.Lists.{memory, held}
 use Rattle.forks.proofs.Burying.{Compacts}
 use Rattle.forks.proofs.ends.bury.Given as goal
 

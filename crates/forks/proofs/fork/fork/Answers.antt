@@ -1,4 +1,4 @@
-use Rattle.std.proofs.Common.{◌≡◌, ◌+◌, ◌∙◌, arith}
+use Rattle.std.proofs.Common.{◌≡◌, arith}
 use Rattle.law.specs.Holding.{width}
 use Rattle.forks.proofs.Several.{forked_start, forked_more, forked_all}
 use Rattle.forks.proofs.Sinking.{sunk_none, sunk_more, sunk_as}

@@ -1,8 +1,5 @@
-use Rattle.std.proofs.Common.{◌≡◌, false, List, [], ◌∷◌, get_or, sym, refl, ap, ◌∙◌, subst}
-use Rattle.law.specs.Histories.{Seen, Loading}
-use Rattle.rows.specs.Filled.{is_in}
-use Rattle.rows.specs.Placings.{loading_plus, choice_plus, Placeable, Placed}
-use Rattle.forks.specs.Forks.{PutAt, Parent, Forked}
+use Rattle.std.proofs.Common.{[], ◌∷◌, sym, ◌∙◌, subst}
+use Rattle.rows.specs.Placings.{loading_plus, choice_plus, Placed}
 use Rattle.forks.specs.Rows.{choice_of}
 use Rattle.forks.proofs.Single.{not_wanted, not_open, put_here, placeable, fails_put, grows_put, ripens_put}
 use Rattle.forks.proofs.fork.fork_at.Goals as goal

@@ -1,4 +1,4 @@
-use Rattle.std.proofs.Common.{◌≡◌, ◌/◌, ◌≤◌, length}
+use Rattle.std.proofs.Common.{◌≤◌}
 use Rattle.forks.proofs.Sinking.{sunk_as}
 use Rattle.forks.proofs.Spreading.{forked_spreads, table_lies, parent_of}
 use Rattle.forks.proofs.spread.spread_one.Goals as goal

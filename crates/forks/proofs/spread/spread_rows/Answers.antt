@@ -1,4 +1,4 @@
-use Rattle.std.proofs.Common.{◌≡◌, ◌+◌, ◌<◌, ◌≤◌, List, [], ◌∷◌, ◌++◌, map, length, take, Some, sym, refl, ap, ◌∙◌, subst, arith}
+use Rattle.std.proofs.Common.{◌≡◌, ◌<◌, ◌++◌, map, length, take, Some, sym, ◌∙◌, subst, arith}
 use Rattle.std.proofs.ByRecursion.{All-get_or}
 use Rattle.std.proofs.lemmas.List.{take_all}
 use Rattle.std.specs.List.{slice_get}
@@ -34,4 +34,8 @@ returns-after-loop-i g c =
     (λ born ripe old a e ready alive. subst (λ rs. Spread g.K.Kind a e (map row_of rs) born ripe) (take_all c.loop-i.i rows (omega arith)) (old a e ready alive)) c.loop-i.invariant
 
 pub returns-in_default : goal.returns-in_default
-returns-in_default g c = ?
+returns-in_default g c =
+    let rows = held c.args.rows.now in
+    let inside : c.loop-i.i < length rows = omega arith in
+    let gone = past_end rows c.loop-i.i (sym (stored_nth c.args.rows.now c.loop-i.rows c.loop-i.invariant.0 c.loop-i.i c.loop-i.invariant.2 inside) ∙ sym c.get.ensures ∙ c.in_default.is) in
+    absurd (omega (arith, inside, gone))

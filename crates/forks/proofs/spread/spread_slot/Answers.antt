@@ -1,4 +1,4 @@
-use Rattle.std.proofs.Common.{◌≡◌, ◌≤◌, replicate, sym, refl, ap, ◌∙◌, subst, inl, arith}
+use Rattle.std.proofs.Common.{◌≡◌, ◌≤◌, replicate, sym, ap, ◌∙◌, inl, arith}
 use Rattle.law.specs.Histories.{loading_of}
 use Rattle.law.specs.Holding.{width}
 use Rattle.law.proofs.Ticks.{no_loading}
@@ -12,4 +12,15 @@ returns-then-not-is_loaded g c = sunk_none g.R.Sink.adds g.L.Sink.adds c.args.ro
     (λ a e ready loaded. begun_none g.K.Kind a e _ (λ r s (l, is-l, k). no_loading (ap (λ t. loading_of t a) s ∙ not_loaded a c.args.slots.now loaded c.args.slot (sym c.is_loaded.ensures ∙ c.if-not-is_loaded.true)) is-l))
 
 pub returns : goal.returns
-returns g c = ?
+returns g c = sunk_as g.R.Sink.adds g.L.Sink.adds c.args.rows.now c.spread_one.new.rows c.args.lines.now c.spread_one.new.lines _ _
+    (λ born ripe spread a e ready loaded.
+    let row = c.blank-blank.result in
+    let of-slot = c.blank-blank.ensures.0 in
+    let (l, is-l, wide, few) = is_loaded_lem a c.args.slots.now loaded c.args.slot (sym c.is_loaded.ensures ∙ c.if-not-is_loaded.false) in
+    let as-wide : width l ≡ c.min-width.result = omega (arith, wide, few, c.width.ensures, c.min-width.ensures) in
+    let narrow : c.min-width.result ≤ 8 = omega (arith, as-wide, few) in
+    let (zeros, standing) = c.blank-blank.ensures.1 l as-wide narrow in
+    let blank : choice_of row ≡ replicate (width l) 0 = zeros ∙ ap (λ n. replicate n 0) (sym as-wide) in
+    begun_one g.K.Kind a e c.args.slot l is-l (row_of row) of-slot blank born ripe
+    (spread a e ready (l, ap (λ s. loading_of s a) of-slot ∙ is-l, standing, inl (blank-blank l (choice_of row) blank))))
+    c.spread_one.ensures

@@ -1,6 +1,5 @@
-use Rattle.std.proofs.Common.{◌≡◌, ◌+◌, ◌<◌, ◌≤◌, sym, refl, ap, ◌∙◌, subst, inl, inr, ⊎_elim, arith}
+use Rattle.std.proofs.Common.{inl, inr, ⊎_elim, arith}
 use Rattle.std.proofs.lemmas.Bool.{cases_lt}
-use Rattle.law.specs.Telling.{Row}
 use Rattle.forks.proofs.Beginning.{begun_none, begun_join, begun_as}
 use Rattle.forks.proofs.Sinking.{sunk_none, sunk_more, sunk_as}
 use Rattle.forks.proofs.spread.spread_slots.Goals as goal

@@ -1,4 +1,4 @@
-use Rattle.std.proofs.Common.{◌≡◌, ◌+◌, ◌<◌, ◌≤◌, length, sym, refl, ap, ◌∙◌, subst, arith}
+use Rattle.std.proofs.Common.{◌<◌, length, sym, ◌∙◌, subst, arith}
 use Rattle.lent.specs.Lists.{held}
 use Rattle.forks.specs.Rows.{EndsAt}
 use Rattle.forks.proofs.Settling.{past_end}

@@ -1,4 +1,4 @@
-use Rattle.std.proofs.Common.{◌≡◌, ℕ, List, take, replicate, sym, refl, ap, ◌∙◌, subst}
+use Rattle.std.proofs.Common.{◌≡◌, take, replicate, sym, refl, ap, ◌∙◌, subst}
 use Rattle.std.proofs.lemmas.List.{take-replicate}
 use Rattle.kinds.specs.declared.bound.Bound.TheVariants.{NoBound}
 use Rattle.law.specs.Holding.{width, Deadline}

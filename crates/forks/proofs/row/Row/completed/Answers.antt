@@ -1,8 +1,8 @@
-use Rattle.std.proofs.Common.{◌≡◌, ℕ, ◌<◌, List, take, set, sym, refl, ap, ◌∙◌, subst, arith}
+use Rattle.std.proofs.Common.{◌≡◌, ◌<◌, take, set, sym, ap, ◌∙◌, arith}
 use lib.Seq.{take-set-lt}
-use Rattle.law.specs.Histories.{R, Line}
+use Rattle.law.specs.Histories.{R}
 use Rattle.rows.specs.Placings.{choice_plus}
-use Rattle.forks.specs.Rows.{choice_of, recognition}
+use Rattle.forks.specs.Rows.{choice_of}
 use Rattle.forks.proofs.row.Row.completed.Goals as goal
 
 pub returns : goal.returns

@@ -1,4 +1,4 @@
-use Rattle.std.proofs.Common.{◌≡◌, ℕ, ◌<◌, List, take, set, sym, refl, ap, ◌∙◌, subst, arith}
+use Rattle.std.proofs.Common.{◌≡◌, ◌<◌, take, set, sym, refl, ap, ◌∙◌, subst, arith}
 use lib.Seq.{take-set-lt}
 use Rattle.rows.specs.Placings.{loading_plus, choice_plus}
 use Rattle.rows.specs.Portraits.{Portrays}

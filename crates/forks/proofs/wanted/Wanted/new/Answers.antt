@@ -1,7 +1,3 @@
-use Rattle.std.proofs.Common.{ℕ}
-use Rattle.text.specs.Spelled.{spelled}
-use Rattle.slots.specs.Slots.{types_in}
-use Rattle.forks.specs.Wanting.{mask_of, Wants}
 use Rattle.forks.proofs.Masks.{each_slot}
 use Rattle.forks.proofs.wanted.Wanted.new.Goals as goal
 
