@@ -1,6 +1,6 @@
 -- What a queue says of the rows whose deadlines it holds.
 use Rattle.std.specs.Prelude.{◌≡◌, Bool, true, false, List, map, Some, None, Option}
-use Rattle.std.specs.List.{ContainsAt as Has, AllByRecursion as All}
+use Rattle.std.specs.List.{ContainsAt as Has, AllByRecursion}
 use Rattle.std.specs.List.Sorted.{IsPermutation}
 use Rattle.kinds.specs.declared.bound.Bound.{Bound}
 use Rattle.kinds.specs.declared.bound.Bound.TheVariants.{At, NoBound}
@@ -28,11 +28,11 @@ module _ {K : Type 0} (kind : Meaning K) where
 
   -- no deadline of these rows is before b
   abbrev pub NoneBefore : Bound kind.G → List (Row K) → Type 0
-  NoneBefore b rs = All (λ r. at_most kind.group b (deadline r) ≡ true) rs
+  NoneBefore b rs = AllByRecursion (λ r. at_most kind.group b (deadline r) ≡ true) rs
 
   -- d is the smallest deadline of these rows; absent where none has one
   unfoldable pub Next : List (Row K) → Option K → Type 0
-  Next rs None = All (λ r. deadline r ≡ NoBound) rs
+  Next rs None = AllByRecursion (λ r. deadline r ≡ NoBound) rs
   Next rs (Some d) = ((r : Row K) × Has rs r × (deadline r ≡ At (kind.value d))) × NoneBefore (At (kind.value d)) rs
 
   -- the deadline at the top of a queue is the smallest of these rows

@@ -2,6 +2,6 @@
 #![tactic(auto)]
 
 pub mod due;
-pub mod rows;
+pub mod of_rows;
 #[cfg(test)]
 mod tests;

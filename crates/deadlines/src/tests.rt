@@ -1,6 +1,6 @@
 // Queues of the deadlines of a few rows, of either kind.
 use crate::due::Due;
-use crate::rows::{any_before, next, push_from, rebuild};
+use crate::of_rows::{any_before, next, push_from, rebuild};
 use forks::row::Row;
 use kinds::bound::Bound;
 use kinds::pairs::Pairs;

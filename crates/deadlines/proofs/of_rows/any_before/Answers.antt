@@ -1,6 +1,6 @@
 use Rattle.kinds.specs.declared.bound.Bound.TheVariants.{At}
 use Rattle.deadlines.proofs.Tops.{none_at_all, by_the_smallest}
-use Rattle.deadlines.proofs.rows.any_before.Goals as goal
+use Rattle.deadlines.proofs.of_rows.any_before.Goals as goal
 
 pub returns-in_default : goal.returns-in_default
 returns-in_default g c rs holds = none_at_all g.K.Kind rs (c.in_default.ensures rs holds) (At (g.K.Kind.value c.args.moment.now))

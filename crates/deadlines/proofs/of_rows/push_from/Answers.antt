@@ -1,7 +1,7 @@
 use Rattle.std.proofs.Common.{sym, arith}
 use Rattle.lent.specs.Lists.{held}
 use Rattle.deadlines.proofs.Fills.{never_absent, pushed_more, pushed_all}
-use Rattle.deadlines.proofs.rows.push_from.Goals as goal
+use Rattle.deadlines.proofs.of_rows.push_from.Goals as goal
 
 pub loop-i-preserved-in_default : goal.loop-i-preserved-in_default
 loop-i-preserved-in_default g c = absurd (never_absent (held c.args.rows.now) c.loop-i.i (omega arith) (sym c.in_default.ensures))
