@@ -1,7 +1,7 @@
 -- What a watch in memory holds after the accepted calls, and what it stands for after all calls.
 use Rattle.std.specs.Prelude.{◌≡◌, ℕ, ◌≤◌, List, ◌∷◌, map, length, Some, None, Option}
 use Rattle.std.specs.Option.{option_map}
-use Rattle.std.specs.List.{AllByRecursion as All}
+use Rattle.std.specs.List.{AllByRecursion}
 use Rattle.kinds.specs.declared.bound.Bound.{Bound}
 use Rattle.kinds.specs.declared.kind.Kind.{Ghosts as Meaning}
 use Rattle.law.specs.Calls.{Call, accepted}
@@ -13,7 +13,7 @@ use Rattle.law.specs.Steps.{SmallSlots}
 use Rattle.law.specs.Telling.{Row as HeldRow, Reads, Lawful}
 use Rattle.rows.specs.Portraits.{ClosedTable}
 use Rattle.lent.specs.Lists.{held, memory}
-use Rattle.queue.specs.Held.{memory as queueMemory}
+use Rattle.queue.specs.Held.{memory as queue_memory}
 use Rattle.slots.specs.Loads.{slot_table}
 use Rattle.slots.specs.Slots.{types_in}
 use Rattle.forks.specs.declared.row.Row.{Row}
@@ -31,7 +31,7 @@ module _ {K : Type 0} where
 
   -- the lengths of the memory lent
   abbrev pub lent_of : Watch K → Lent
-  lent_of w = record { entries = length w.entries.now; rows = length (memory w.rows); deadlines = length (queueMemory w.queue) }
+  lent_of w = record { entries = length w.entries.now; rows = length (memory w.rows); deadlines = length (queue_memory w.queue) }
 
 module _ {K : Type 0} (kind : Meaning K) where
   -- the record and the closed bounds of a slot are those of its loading, and an empty slot has no record
@@ -52,7 +52,7 @@ module _ {K : Type 0} (kind : Meaning K) where
     pub count_is : w.count ≡ event_count a
     pub slots : (s : ℕ) → SlotHolds (loading_of s a) (types_in w.slots s) (slot_table s w.entries.now)
     pub rows : Reads kind.group a (rows_read w)
-    pub standing : All (InLoading a) (rows_in w)
+    pub standing : AllByRecursion (InLoading a) (rows_in w)
     pub queue : QueueHolds kind (rows_in w) w.queue
     pub fits : length (rows_in w) ≤ capacity lent
 
