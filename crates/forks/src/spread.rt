@@ -81,7 +81,7 @@ pub fn spread_rows<K: Kind, L: Sink<Line<K>>>(
     }
 }
 
-// What the event makes of one slot with nothing filled, where it is loaded. The last argument asks only that a row has a size.
+// What the event makes of one slot with nothing filled, where it is loaded. The last argument only has the caller know that a row's size is one that memory has.
 fn spread_slot<K: Kind, R: Sink<Row<K>>, L: Sink<Line<K>>>(
     slots: &Slots,
     slot: u8,
@@ -90,7 +90,7 @@ fn spread_slot<K: Kind, R: Sink<Row<K>>, L: Sink<Line<K>>>(
     arrival: &Arrival<K>,
     rows: &mut R,
     lines: &mut L,
-    sized: PhantomData<Row<K>>,
+    _sized: PhantomData<Row<K>>,
 )
     ensures { Sunk R.Sink.took L.Sink.took rows.old rows.new lines.old lines.new (λ born ripe. (a : List (Act K.G)) (e : Event K.G) → Ready K.Kind a e entries.now wanted.now arrival.now → Loaded a slots.now → Begun K.Kind a e (λ r. r.slot ≡ slot) born ripe) }
 {
@@ -102,7 +102,7 @@ fn spread_slot<K: Kind, R: Sink<Row<K>>, L: Sink<Line<K>>>(
     spread_one(&blank, entries, wanted, arrival, rows, lines);
 }
 
-// What the event makes of the loaded slots with nothing filled.
+// What the event makes of the loaded slots with nothing filled. The last argument is as for one slot.
 pub fn spread_slots<K: Kind, R: Sink<Row<K>>, L: Sink<Line<K>>>(
     slots: &Slots,
     entries: &[Bound<K>],
