@@ -59,7 +59,7 @@ impl Wanted {
 
     // Whether no variable of any slot is of the type.
     pub fn is_none(&self) -> bool
-        ensures { result ≡ true → (s j : ℕ) → 1 ≤ s → s ≤ 8 → is_in (mask_of self.now s) j ≡ false }
+        ensures { Decides result ((s j : ℕ) → 1 ≤ s → s ≤ 8 → is_in (mask_of self.now s) j ≡ false) }
     {
         for slot in 1..9 {
             if !self.of(slot).is_none() {

@@ -1,5 +1,5 @@
 // A new watch, over memory of any lengths.
-ghost use Rattle.std.specs.Prelude.{◌≡◌, []};
+ghost use Rattle.std.specs.Prelude.{◌≡◌, [], length};
 ghost use Rattle.law.specs.Laws.{Law};
 ghost use Rattle.recogniser.specs.Watches.{lent_of, Stands, rows_read};
 
@@ -19,7 +19,8 @@ impl<'a, K: Kind> Watch<'a, K> {
         rows: &'a mut [Row<K>],
         deadlines: &'a mut [Due<K>],
     ) -> Watch<'a, K>
-        ensures { Stands K.Kind (lent_of result) [] result × Law K.Kind (lent_of result) [] (rows_read result) }
+        ensures stands { Stands K.Kind (lent_of result) [] result × Law K.Kind (lent_of result) [] (rows_read result) }
+        ensures lent { lent_of result ≡ record { entries = length entries.old; rows = length rows.old; deadlines = length deadlines.old } }
     {
         Watch {
             entries,

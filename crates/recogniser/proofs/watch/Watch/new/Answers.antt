@@ -2,8 +2,8 @@ use Rattle.std.proofs.Common.{None, refl}
 use Rattle.recogniser.proofs.Opening.{stands_new}
 use Rattle.recogniser.proofs.watch.Watch.new.Goals as goal
 
-pub returns : goal.returns
-returns g c = stands_new g.K.Kind record {
+pub returns-clause-stands : goal.returns-clause-stands
+returns-clause-stands g c = stands_new g.K.Kind record {
   entries = c.args.entries;
   slots = c.new.result;
   moment = None;
