@@ -22,26 +22,6 @@ pub const ENTRIES: usize = 512;
 /// How many of them are for one slot.
 pub const SLOT_ENTRIES: usize = 64;
 
-fn has_room(entries: usize) -> bool
-    ensures { result ≡ nat_le 512 entries }
-{
-    entries >= ENTRIES
-}
-
-fn too_short() -> Fault
-    ensures { result ≡ fault_at ShortMemory 0 0 }
-{
-    Place { line: 0, field: 0 }.fault(Cause::ShortMemory)
-}
-
-// Where the closed bounds of a slot begin.
-fn table_start(slot: usize) -> usize
-    requires { (1 ≤ slot) × (slot ≤ 8) }
-    ensures { result ≡ 64 * (slot - 1) }
-{
-    SLOT_ENTRIES * (slot - 1)
-}
-
 // Reads the definition at the front of a text, and closes its bounds in the part of a slot.
 fn read_into<K: Kind>(
     entries: &mut [Bound<K>],
@@ -49,14 +29,16 @@ fn read_into<K: Kind>(
     text: &[u8],
     loaded: &Loaded,
 ) -> Result<Definition, Fault>
-    requires { (1 ≤ slot) × ((slot ≤ 8) × (512 ≤ length entries.old)) }
+    requires one { 1 ≤ slot }
+    requires eight { slot ≤ 8 }
+    requires room { 512 ≤ length entries.old }
     ensures within { IfOk result (λ x. (0 < x.used) × (x.used ≤ length text.now)) }
     ensures reads { Reads K.group K.value (reading_of K.fields K.means K.bound loaded.now text.now) (slot_table slot entries.new) result }
     ensures light { IfOk result (λ x. Light K.value K.weight (length (type_names x.types)) 256 (slot_table slot entries.new)) }
     ensures others { OthersKept slot entries.old entries.new }
     ensures memory { length entries.new ≡ length entries.old }
 {
-    let start = table_start(slot);
+    let start = SLOT_ENTRIES * (slot - 1);
     read(text, loaded, &mut entries[start..start + SLOT_ENTRIES])
 }
 
@@ -69,8 +51,8 @@ pub fn load_into<K: Kind>(
 ) -> Result<usize, Fault>
     ensures { Loads K.Kind text.now slots.old slots.new entries.old entries.new result }
 {
-    if !has_room(entries.len()) {
-        return Err(too_short());
+    if entries.len() < ENTRIES {
+        return Err(Place { line: 0, field: 0 }.fault(Cause::ShortMemory));
     }
     let loaded = slots.loaded();
     let slot = opening_slot::<K>(text, &loaded)?;

@@ -41,22 +41,16 @@ impl Slot {
     pub fn width(&self) -> usize
         ensures { result ≡ width (types_of self.now) }
     {
-        match &self.types {
-            Some(types) => types.len(),
-            None => 0,
-        }
+        self.types.as_ref().map_or(0, |types| types.len())
     }
 
     // Whether variable i, counted from 0, is of that type.
     pub fn has_type(&self, i: usize, name: &Name) -> bool
         ensures { Decides result (HasType (types_of self.now) i (spelled name.now)) }
     {
-        let Some(types) = &self.types else {
-            return false;
-        };
-        match types.get(i) {
-            Some(own) => own.same(name),
-            None => false,
-        }
+        self.types
+            .as_ref()
+            .and_then(|types| types.get(i))
+            .is_some_and(|own| own.same(name))
     }
 }

@@ -1,13 +1,14 @@
 // The eight slots together, counted from 1. A number outside 1 to 8 stands for a slot that is always empty.
-ghost use Rattle.std.specs.Prelude.{◌≡◌, ℕ, is_some, Some, None, Decides, MatchBool};
+ghost use Rattle.std.specs.Prelude.{◌≡◌, ℕ, is_some, option_and_then, Some, None, Decides, MatchBool};
 ghost use Rattle.text.specs.Spelled.{spelled};
 ghost use Rattle.definitions.specs.TypeNames.{type_names};
-ghost use Rattle.slots.specs.Variables.{width, HasType};
+ghost use Rattle.slots.specs.Variables.{types_of, width, HasType};
 ghost use Rattle.slots.specs.Slots.{is_slot, types_in, loaded_in, Changed, Vacates, refusal_number};
 
 use crate::slot::Slot;
 use definitions::loaded::Loaded;
 use definitions::types::Types;
+use std::array::from_fn;
 use text::name::Name;
 
 pub const SLOTS: usize = 8;
@@ -21,18 +22,12 @@ pub struct Slots {
 #[derive(Clone, Copy, Debug, PartialEq, Eq)]
 pub struct NotLoaded;
 
-impl NotLoaded {
-    pub fn number(self) -> u8
-        ensures { result ≡ refusal_number self }
-    {
+impl From<NotLoaded> for u8 {
+    ghost from_gives = { λ refusal number. number ≡ refusal_number refusal };
+
+    fn from(_refusal: NotLoaded) -> u8 {
         20
     }
-}
-
-fn is_slot(slot: usize) -> bool
-    ensures { result ≡ is_slot slot }
-{
-    slot >= 1 && slot <= SLOTS
 }
 
 impl Slots {
@@ -44,39 +39,33 @@ impl Slots {
         }
     }
 
+    // The record of a slot; absent outside 1 to 8.
+    fn record(&self, slot: usize) -> Option<&Slot>
+        ensures { types_in self.now slot ≡ option_and_then (λ own. types_of own.now) result }
+    {
+        self.records.get(slot.checked_sub(1)?)
+    }
+
     pub fn is_loaded(&self, slot: usize) -> bool
         ensures { result ≡ is_some (types_in self.now slot) }
     {
-        if !is_slot(slot) {
-            return false;
-        }
-        self.records[slot - 1].is_loaded()
+        self.record(slot).is_some_and(|own| own.is_loaded())
     }
 
     // Which of the slots are loaded, as a definition's reader asks it.
     pub fn loaded(&self) -> Loaded
         ensures { result ≡ loaded_in self.now }
     {
-        [
-            self.is_loaded(1),
-            self.is_loaded(2),
-            self.is_loaded(3),
-            self.is_loaded(4),
-            self.is_loaded(5),
-            self.is_loaded(6),
-            self.is_loaded(7),
-            self.is_loaded(8),
-        ]
+        from_fn(|i| self.is_loaded(i + 1))
     }
 
     // Loads a slot with a chronicle's variables; outside 1 to 8 there is none to load.
     pub fn fill(&mut self, slot: usize, types: Types)
         ensures { MatchBool (is_slot slot) (Changed slot (Some (type_names types)) self.old self.new) (self.new ≡ self.old) }
     {
-        if !is_slot(slot) {
-            return;
+        if (1..=SLOTS).contains(&slot) {
+            self.records[slot - 1].fill(types);
         }
-        self.records[slot - 1].fill(types);
     }
 
     pub fn vacate(&mut self, slot: usize) -> Result<(), NotLoaded>
@@ -93,19 +82,13 @@ impl Slots {
     pub fn width(&self, slot: usize) -> usize
         ensures { result ≡ width (types_in self.now slot) }
     {
-        if !is_slot(slot) {
-            return 0;
-        }
-        self.records[slot - 1].width()
+        self.record(slot).map_or(0, |own| own.width())
     }
 
     // Whether variable i of a slot, counted from 0, is of that type.
     pub fn has_type(&self, slot: usize, i: usize, name: &Name) -> bool
         ensures { Decides result (HasType (types_in self.now slot) i (spelled name.now)) }
     {
-        if !is_slot(slot) {
-            return false;
-        }
-        self.records[slot - 1].has_type(i, name)
+        self.record(slot).is_some_and(|own| own.has_type(i, name))
     }
 }

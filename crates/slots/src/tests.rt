@@ -4,9 +4,8 @@ use crate::table::{NotLoaded, Slots};
 use kinds::bound::Bound;
 use kinds::ticks::Ticks;
 use network::table::bound_between;
-use std::process::Abort;
 use std::test::Fail;
-use text::fault::{Cause, Fault};
+use text::fault::{Cause, Fault, Place};
 use text::name::Name;
 
 const LEAK: &[u8] =
@@ -16,30 +15,15 @@ const USED: usize = 93;
 
 const NO_TABLES: [Bound<Ticks>; 512] = [Bound::NoBound; 512];
 
-fn has_fault(
-    rt: &impl Abort,
-    r: Result<usize, Fault>,
-    cause: Cause,
-    line: usize,
-    field: usize,
-) -> Result<(), Fail> {
-    match r {
-        Ok(_) => {
-            assert!(rt; false);
-            Ok(())
-        },
-        Err(fault) => {
-            assert_eq!(rt; fault, Fault { cause, line, field });
-            Ok(())
-        },
-    }
+fn refused(cause: Cause, line: usize, field: usize) -> Result<usize, Fault> {
+    Err(Place { line, field }.fault(cause))
 }
 
 fn most(entries: &[Bound<Ticks>], from: usize, to: usize) -> Option<i64> {
-    match bound_between(entries, from, to) {
-        Some(Bound::At(most)) => Some(most.count),
-        _ => None,
-    }
+    let Some(Bound::At(most)) = bound_between(entries, from, to) else {
+        return None;
+    };
+    Some(most.count)
 }
 
 fn load(slots: &mut Slots, entries: &mut [Bound<Ticks>], text: &[u8]) -> Result<usize, Fault> {
@@ -74,10 +58,10 @@ fn a_loaded_slot_is_refused_until_it_is_vacated(rt: HostRuntime) -> Result<(), F
     let mut slots = Slots::new();
     let mut entries = NO_TABLES;
     assert_eq!(rt; slots.vacate(2), Err(NotLoaded));
-    assert_eq!(rt; NotLoaded.number(), 20);
+    assert_eq!(rt; u8::from(NotLoaded), 20);
     assert_eq!(rt; load(&mut slots, &mut entries, LEAK)?, USED);
     let again = load(&mut slots, &mut entries, LEAK);
-    has_fault(&rt, again, Cause::SlotLoaded, 1, 2)?;
+    assert_eq!(rt; again, refused(Cause::SlotLoaded, 1, 2));
     assert_eq!(rt; slots.width(2), 3);
     assert_eq!(rt; slots.vacate(2), Ok(()));
     assert_eq!(rt; slots.vacate(9), Err(NotLoaded));
@@ -87,9 +71,9 @@ fn a_loaded_slot_is_refused_until_it_is_vacated(rt: HostRuntime) -> Result<(), F
 }
 
 #[test]
-fn the_entries_of_all_slots_are_lent(rt: HostRuntime) -> Result<(), Fail> {
+fn the_entries_of_all_slots_are_lent(rt: HostRuntime) {
     let mut slots = Slots::new();
     let mut entries = NO_TABLES;
     let short = load(&mut slots, &mut entries[1..], b"");
-    has_fault(&rt, short, Cause::ShortMemory, 0, 0)
+    assert_eq!(rt; short, refused(Cause::ShortMemory, 0, 0));
 }

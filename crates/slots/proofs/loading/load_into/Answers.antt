@@ -1,6 +1,5 @@
-use Rattle.std.proofs.Common.{◌≤◌, length, Ok, Err, sym, ◌∙◌, subst}
+use Rattle.std.proofs.Common.{◌≤◌, length, Ok, Err, subst, arith}
 use Rattle.std.proofs.lemmas.Result.{err_from_is_err_and}
-use Rattle.std.proofs.lemmas.Bool.{leb-true}
 use Rattle.definitions.specs.Loading.{Loads}
 use Rattle.definitions.specs.Openings.{Opened}
 use Rattle.definitions.specs.Reading.{reading_of}
@@ -19,7 +18,7 @@ returns-in_err-definition g c =
     let p = err_from_is_err_and c.from_residual-in_err-definition.result c.from_residual-in_err-definition.ensures.1 in
     let opened = subst (λ l. Opened l (reading_of m.fields m.means m.bound l text) s) c.loaded-loaded.ensures c.in_ok-slot.ensures in
     let read = subst (λ l. Loads m.group m.value (reading_of m.fields m.means m.bound l text) (slot_table s new) (Err f)) c.loaded-loaded.ensures told.reads in
-    let room : 512 ≤ length c.args.entries.now = leb-true 512 _ (sym c.has_room.ensures ∙ c.if-not-has_room.false) in
+    let room : 512 ≤ length c.args.entries.now = omega arith in
     rw (p.1, p.2) (load_refused m text c.args.slots.now c.args.entries.now new room s opened told.others told.memory f read)
 
 pub returns : goal.returns
@@ -32,5 +31,5 @@ returns g c =
     let new = c.read_into.new.entries in
     let opened = subst (λ l. Opened l (reading_of m.fields m.means m.bound l text) s) c.loaded-loaded.ensures c.in_ok-slot.ensures in
     let read = subst (λ l. Loads m.group m.value (reading_of m.fields m.means m.bound l text) (slot_table s new) (Ok x)) c.loaded-loaded.ensures told.reads in
-    let room : 512 ≤ length c.args.entries.now = leb-true 512 _ (sym c.has_room.ensures ∙ c.if-not-has_room.false) in
+    let room : 512 ≤ length c.args.entries.now = omega arith in
     load_accepted m text c.args.slots.now c.args.entries.now new room s opened told.others told.memory c.fill.new.self x read told.within.0 told.within.1 told.light c.fill.ensures
