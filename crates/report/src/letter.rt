@@ -8,11 +8,11 @@ pub enum Letter {
     Deadline,
 }
 
-impl Letter {
-    pub fn byte(self) -> u8
-        ensures { result ≡ letter_byte self }
-    {
-        match self {
+impl From<Letter> for u8 {
+    ghost from_gives = { λ letter byte. byte ≡ letter_byte letter };
+
+    fn from(letter: Letter) -> u8 {
+        match letter {
             Letter::Recognised => b'R',
             Letter::Deadline => b'D',
         }

@@ -6,7 +6,7 @@ use crate::letter::Letter;
 use lent::list::Lent;
 
 // The events of the row are the first `width` numbers of the choice.
-#[derive(Clone, Copy)]
+#[derive(Clone, Copy, Debug, PartialEq, Eq)]
 pub struct Line<K> {
     pub letter: Letter,
     pub slot: u8,
@@ -22,10 +22,10 @@ pub type Report<'a, K> = Lent<'a, Line<K>>;
 #[derive(Clone, Copy, Debug, PartialEq, Eq)]
 pub struct TextShort;
 
-impl TextShort {
-    pub fn number(self) -> u8
-        ensures { result ≡ refusal_number self }
-    {
+impl From<TextShort> for u8 {
+    ghost from_gives = { λ refusal number. number ≡ refusal_number refusal };
+
+    fn from(_refusal: TextShort) -> u8 {
         29
     }
 }

@@ -57,7 +57,7 @@ fn writes_all_or_nothing(rt: HostRuntime) {
     assert_eq!(rt; recognised(3, 1, 1).write(&mut out, 9), Err(TextShort));
     assert!(rt; &out == b"........");
     assert_eq!(rt; recognised(3, 1, 1).write(&mut out, 0), Ok(8));
-    assert_eq!(rt; TextShort.number(), 29);
+    assert_eq!(rt; u8::from(TextShort), 29);
 }
 
 #[test]

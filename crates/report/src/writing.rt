@@ -5,7 +5,7 @@ ghost use Rattle.text.specs.Writing.{place_after, pasted};
 ghost use Rattle.report.specs.Lines.{text_short};
 ghost use Rattle.report.specs.Texts.{head_text, line_text};
 
-use crate::head::{WIDEST_HEAD, chosen, put_head};
+use crate::head::{chosen, head_of};
 use crate::letter::Letter;
 use crate::line::{Line, TextShort};
 use crate::pieces::put_pieces;
@@ -24,9 +24,7 @@ fn put_line<K: Kind>(
     ensures place { result ≡ place_after out.old start (head_text letter slot events.now ++ (K.written stamp.now ++ (10 ∷ []))) }
     ensures after { out.new ≡ pasted out.old start (head_text letter slot events.now ++ (K.written stamp.now ++ (10 ∷ []))) }
 {
-    let mut buffer = [0u8; WIDEST_HEAD];
-    let end = put_head(&mut buffer, letter, slot, events);
-    put_pieces(out, start, &buffer[0..end], stamp)
+    put_pieces(out, start, head_of(letter, slot, events).as_slice(), stamp)
 }
 
 impl<K: Kind> Line<K> {
