@@ -4,7 +4,7 @@
 use anyhow::anyhow;
 use definitions::loaded::{Loaded, load};
 use definitions::reader::{Definition, read};
-use files::{Input, read_input};
+use files::{Unread, read_input};
 use kinds::bound::Bound;
 use kinds::ticks::Ticks;
 use network::table::bound_between;
@@ -61,48 +61,40 @@ fn print_fault(rt: &HostRuntime, fault: &Fault) -> io::Result<()> {
     println!(rt; "ERR\t{number}\t{line}\t{field}")
 }
 
-// The definitions one after another, each into a slot of its own; false where one is refused.
-fn close_all(rt: &HostRuntime, text: &[u8]) -> io::Result<bool> {
+// The definitions one after another, each into a slot of its own, up to one that is refused.
+fn close_all(rt: &HostRuntime, text: &[u8]) -> anyhow::Result<()> {
     let mut loaded: Loaded = [false; 8];
     let mut table = [Bound::NoBound; 64];
-    let mut used = 0;
+    let mut rest = text;
     let mut count = 0usize;
-    while used < text.len() {
-        match read::<Ticks>(&text[used..], &loaded, &mut table) {
+    while !rest.is_empty() {
+        match read::<Ticks>(rest, &loaded, &mut table) {
             Ok(definition) => {
                 print_definition(rt, &definition, &table)?;
                 load(&mut loaded, definition.slot);
-                used += definition.used;
+                rest = &rest[definition.used..];
                 count = count.saturating_add(1);
             }
             Err(fault) => {
                 print_fault(rt, &fault)?;
-                return Ok(false);
+                return Err(anyhow!("a definition is refused"));
             }
         }
     }
     println!(rt; "END\t{count}")?;
-    Ok(true)
-}
-
-fn run(rt: &HostRuntime) -> anyhow::Result<()> {
-    let input = match read_input(rt, PATH) {
-        Ok(input) => input,
-        Err(error) => {
-            eprintln!(rt; "closure: cannot read {PATH}: {error}")?;
-            return Err(error.into());
-        }
-    };
-    let Input::Text(text) = input else {
-        println!(rt; "ERR\t27")?;
-        return Err(anyhow!("the file is too long"));
-    };
-    if !close_all(rt, text.as_slice())? {
-        return Err(anyhow!("a definition is refused"));
-    }
     Ok(())
 }
 
 fn main(rt: HostRuntime) -> anyhow::Result<()> {
-    run(&rt)
+    match read_input(&rt, PATH) {
+        Ok(text) => close_all(&rt, text.as_slice()),
+        Err(Unread::Failed(error)) => {
+            eprintln!(rt; "closure: cannot read {PATH}: {error}")?;
+            Err(error.into())
+        }
+        Err(Unread::Long(refusal)) => {
+            println!(rt; "ERR\t{}", u8::from(refusal))?;
+            Err(anyhow!("the file is too long"))
+        }
+    }
 }

@@ -1,8 +1,9 @@
 // Files that the programs read: at most 65,536 bytes each.
 #![tactic(auto)]
 
-ghost use Rattle.std.specs.Prelude.{◌≡◌, ◌≤◌, IfOk};
-ghost use Rattle.files.specs.Inputs.{Short, Judges, input_number};
+ghost use Rattle.std.specs.Prelude.{◌≡◌, ◌≤◌, IfOk, vec_len};
+ghost use Rattle.files.specs.Inputs.{Judges, refusal_number};
+ghost use Rattle.files.specs.declared.Unread.TheVariants.{Failed, Long};
 
 use std::alloc::Global;
 use std::fs::File;
@@ -14,40 +15,56 @@ mod tests;
 
 pub const MOST_BYTES: usize = 65_536;
 
-// What a file holds, unless it is too long.
-#[derive(Drop)]
-pub enum Input {
-    Text(Vec<u8>),
-    TooLong,
-}
+/// The refusal of a file that has more bytes.
+#[derive(Clone, Copy, Debug, PartialEq, Eq)]
+pub struct TooLong;
 
-impl Input {
-    // 0 for a text, else the number of the refusal.
-    pub fn number(&self) -> u8
-        ensures { result ≡ input_number self.now }
-    {
-        match self {
-            Input::Text(_) => 0,
-            Input::TooLong => 27,
-        }
+impl From<TooLong> for u8 {
+    ghost from_gives = { λ refusal number. number ≡ refusal_number refusal };
+
+    fn from(_refusal: TooLong) -> u8 {
+        27
     }
 }
 
-fn short_or_long(bytes: Vec<u8>) -> Input
+/// Why a file was not read.
+#[derive(Debug, Drop)]
+pub enum Unread {
+    Failed(io::Error),
+    Long(TooLong),
+}
+
+impl From<io::Error> for Unread {
+    ghost from_gives = { λ error unread. unread ≡ Failed error };
+
+    fn from(error: io::Error) -> Unread {
+        Unread::Failed(error)
+    }
+}
+
+impl From<TooLong> for Unread {
+    ghost from_gives = { λ refusal unread. unread ≡ Long refusal };
+
+    fn from(refusal: TooLong) -> Unread {
+        Unread::Long(refusal)
+    }
+}
+
+fn if_short(bytes: Vec<u8>) -> Result<Vec<u8>, TooLong>
     ensures { Judges bytes result }
 {
     if bytes.len() > MOST_BYTES {
-        return Input::TooLong;
+        return Err(TooLong);
     }
-    Input::Text(bytes)
+    Ok(bytes)
 }
 
-// Reads one byte more than a file may have, so that a longer one shows.
-pub fn read_input(rt: &HostRuntime, path: &str) -> io::Result<Input>
-    ensures { IfOk result Short }
+/// Reads one byte more than a file may have, so that a longer one shows.
+pub fn read_input(rt: &HostRuntime, path: &str) -> Result<Vec<u8>, Unread>
+    ensures { IfOk result (λ text. vec_len text ≤ 65536) }
 {
     let mut bytes = Vec::new(rt.alloc());
     let mut start = File::open(rt, path)?.take(65_537);
     start.read_to_end(&mut bytes)?;
-    Ok(short_or_long(bytes))
+    Ok(if_short(bytes)?)
 }
