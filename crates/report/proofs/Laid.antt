@@ -12,9 +12,6 @@ module _ (was bytes : List ℕ) (i : ℕ) where
   pub pasted_is : i + length bytes ≤ length was → pasted was i bytes ≡ laid i bytes was
   pasted_is h = rw (le-leb (i + length bytes) (length was) h)
 
-  pub pasted_not : length was < i + length bytes → pasted was i bytes ≡ was
-  pasted_not h = rw (lt-leb (i + length bytes) (length was) h)
-
   pub place_is : i + length bytes ≤ length was → place_after was i bytes ≡ Some (i + length bytes)
   place_is h = rw (le-leb (i + length bytes) (length was) h)
 

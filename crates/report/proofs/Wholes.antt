@@ -2,7 +2,7 @@
 use Rattle.std.proofs.Common.{◌≡◌, ℕ, ◌+◌, ◌<◌, ◌≤◌, List, [], ◌∷◌, ◌++◌, length, take, drop, set, Some, None, sym, ap, ◌∙◌, arith}
 use Rattle.std.proofs.lemmas.List.{append_assoc, length-append, length-take-le, take-append-drop}
 use Rattle.text.specs.Writing.{place_after, pasted}
-use Rattle.report.proofs.Laid.{laid, pasted_is, pasted_not, place_is, place_not, refused, accepted, length_laid, laid_part, laid_behind, laid_before, set_laid}
+use Rattle.report.proofs.Laid.{laid, pasted_is, place_is, accepted, length_laid, laid_part, laid_behind, laid_before, set_laid}
 
 module _ (out head stamp : List ℕ) (start : ℕ) where
   abbrev text : List ℕ
@@ -11,27 +11,10 @@ module _ (out head stamp : List ℕ) (start : ℕ) where
   pub text_length : length text ≡ length head + (length stamp + 1)
   text_length = length-append head (stamp ++ (10 ∷ [])) ∙ ap (λ n. length head + n) (length-append stamp (10 ∷ []))
 
-  module _ (short : length out < start + length text) where
-    pub nowhere : None ≡ place_after out start text
-    nowhere = sym (place_not out text start short)
-
-    pub nothing : out ≡ pasted out start text
-    nothing = sym (pasted_not out text start short)
-
   -- the stamp goes into all but the last byte, the first k
   module _ (k : ℕ) (last : k + 1 ≡ length out) (ws : List ℕ) (went : ws ≡ pasted (take k out) (start + length head) stamp) where
     part : length (take k out) ≡ k
     part = length-take-le k out (omega arith)
-
-    module _ (none : None ≡ place_after (take k out) (start + length head) stamp) where
-      over : length (take k out) < start + length head + length stamp
-      over = refused (take k out) stamp (start + length head) none
-
-      pub too_short : length out < start + length text
-      too_short = omega (arith, over, part, text_length)
-
-      pub as_it_was : ws ++ drop k out ≡ out
-      as_it_was = ap (λ xs. xs ++ drop k out) (went ∙ pasted_not (take k out) stamp (start + length head) over) ∙ take-append-drop k out
 
     module _ (end : ℕ) (some : Some end ≡ place_after (take k out) (start + length head) stamp) where
       room : (start + length head + length stamp ≤ length (take k out)) × (end ≡ start + length head + length stamp)
