@@ -18,9 +18,6 @@ module _ (was bytes : List ℕ) (i : ℕ) where
   pub place_not : length was < i + length bytes → place_after was i bytes ≡ None
   place_not h = rw (lt-leb (i + length bytes) (length was) h)
 
-  pub refused : None ≡ place_after was i bytes → length was < i + length bytes
-  refused e = ⊎_elim (λ h. h) (λ h. let f = e ∙ place_is h in let z : ◌≡◌ {A = ℕ} 0 1 = cc in absurd (omega arith)) (cases_lt (length was) (i + length bytes))
-
   pub accepted : (end : ℕ) → Some end ≡ place_after was i bytes → (i + length bytes ≤ length was) × (end ≡ i + length bytes)
   accepted end e = ⊎_elim
       (λ h. let f = e ∙ place_not h in let z : ◌≡◌ {A = ℕ} 0 1 = cc in absurd (omega arith))
