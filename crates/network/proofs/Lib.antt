@@ -1,4 +1,5 @@
 pub mod Order
+pub mod Ranges
 pub mod Rounds
 pub mod Lowering
 pub mod Turns

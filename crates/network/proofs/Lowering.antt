@@ -1,7 +1,7 @@
 -- What a write to one bound of a table leaves.
-use Rattle.std.proofs.Common.{◌≡◌, ℕ, ◌+◌, ◌<◌, ◌≤◌, true, false, List, length, get_or, set, sym, refl, ap, ◌∙◌, subst, ⊎_elim, arith}
+use Rattle.std.proofs.Common.{◌≡◌, ℕ, ◌+◌, ◌<◌, ◌≤◌, true, false, List, ◌++◌, ◌-◌, length, get_or, set, drop, replicate, sym, refl, ap, ◌∙◌, subst, ⊎_elim, arith}
 use Rattle.std.proofs.lemmas.Bool.{cases_lt}
-use Rattle.std.proofs.lemmas.List.{get_or-set_same, get_or-set_other}
+use Rattle.std.proofs.lemmas.List.{get_or-set_same, get_or-set_other, get_or_append_left, get_or-append_right, get_or-replicate, get_or-drop, length-replicate}
 use Rattle.kinds.specs.Ordered.{Ordered}
 use Rattle.kinds.specs.Bounds.{join, at_most, weighs, meant}
 use Rattle.kinds.specs.declared.bound.Bound.{Bound}
@@ -53,11 +53,9 @@ module _ {K G : Type 0} (O : Ordered G) (value : K → G) (weight : G → ℕ) (
       kept = λ c ne. low.kept c (ne j (omega arith)) ∙ sofar.kept c (λ q h. ne q (omega arith));
     }
 
-pub emptied_more : {K : Type 0} (i : ℕ) (t u : List (Bound K)) → i < length u → Emptied i t u → Emptied (i + 1) t (set u i NoBound)
-emptied_more i t u h sofar = record {
-  gone = λ c l. ⊎_elim
-      (λ low. get_or-set_other u i c NoBound NoBound (λ e. omega arith) ∙ sofar.gone c low)
-      (λ high. let e : c ≡ i = omega arith in ap (λ d. get_or (set u i NoBound) d NoBound) e ∙ get_or-set_same u i NoBound NoBound h)
-      (cases_lt c i);
-  kept = λ c l. get_or-set_other u i c NoBound NoBound (λ e. omega arith) ∙ sofar.kept c (omega arith);
+-- the first cells filled with no bound, before the rest of the memory
+pub emptied : {K : Type 0} (t f : List (Bound K)) → f ≡ replicate 64 NoBound → Emptied 64 t (f ++ drop 64 t)
+emptied {K} t f is = let none : Bound K = NoBound in let sixty-four : length f ≡ 64 = ap length is ∙ length-replicate 64 none in record {
+  gone = λ c l. get_or_append_left f (drop 64 t) NoBound c (omega arith) ∙ ap (λ xs. get_or xs c NoBound) is ∙ get_or-replicate 64 c NoBound NoBound l;
+  kept = λ c l. get_or-append_right f (drop 64 t) 64 c NoBound sixty-four l ∙ get_or-drop 64 t (c - 64) NoBound ∙ ap (λ n. get_or t n NoBound) (omega arith);
 }

@@ -1,16 +1,18 @@
 -- What the loops over rows keep, turn by turn.
-use Rattle.std.proofs.Common.{◌≡◌, ℕ, ◌+◌, ◌^◌, ◌<◌, ◌≤◌, Bool, true, false, ◌⊎◌, List, sym, refl, ap, ◌∙◌, subst, inl, inr, ⊎_elim, arith, pow_mono, pow-add}
+use Rattle.std.proofs.Common.{◌≡◌, ℕ, ◌+◌, ◌^◌, ◌<◌, ◌≤◌, Bool, true, false, ◌⊎◌, List, Result, Ok, Err, MatchResult, sym, refl, ap, ◌∙◌, subst, inl, inr, ⊎_elim, arith, pow_mono, pow-add}
 use Rattle.std.proofs.lemmas.Bool.{cases_lt, cases_eq}
 use Rattle.kinds.specs.Ordered.{Ordered}
 use Rattle.kinds.specs.Bounds.{join, at_most, admits, weighs, meant}
 use Rattle.kinds.specs.declared.bound.Bound.{Bound}
 use Rattle.kinds.specs.declared.bound.Bound.TheVariants.{At, NoBound}
-use Rattle.network.specs.Tables.{cell, entry, Tabled, Admitted, Elsewhere}
+use Rattle.network.specs.declared.closing.Unclosed.{Unclosed}
+use Rattle.network.specs.declared.closing.Unclosed.TheVariants.{OutOfRange, NotAdmitted, Contradiction}
+use Rattle.network.specs.Tables.{cell, entry, Tabled, Admitted, InRange, Closes, Elsewhere}
 use Rattle.network.specs.Steps.{Under, Lesser, Tightened, Relaxed, Grounded, Rounding, Round, Going, Light, Running, Ran, StaysLight}
 use Rattle.kinds.specs.Weights.{Weighed}
-use Rattle.network.specs.Chains.{Chain}
+use Rattle.network.specs.Chains.{Chain, Contradictory}
 use Rattle.network.specs.Chains.Chain.{empty, step}
-use Rattle.network.proofs.Rounds.{round_keeps, below_zero}
+use Rattle.network.proofs.Rounds.{round_keeps, below_zero, closed, consistent}
 use Rattle.network.proofs.Order.{under, under_refl, under_same, join_mono, zero_join}
 
 module _ {K G : Type 0} (O : Ordered G) (value : K → G) where
@@ -95,17 +97,17 @@ module _ {K G : Type 0} (O : Ordered G) (value : K → G) (weight : G → ℕ) {
       kept = λ c ne. round.kept c (λ p j h _ q. ne p j h q) ∙ sofar.kept c ne;
     }
 
-    pub ran_below : Running O value weight n k t u → at_most O (At O.zero) (entry value u k k) ≡ false → Ran O value weight n t u false
+    pub ran_below : Running O value weight n k t u → at_most O (At O.zero) (entry value u k k) ≡ false → Ran O value weight n t u (Err Contradiction)
     ran_below sofar low = record {
-      outcome = λ M start light. below_zero O (Tabled value n M) n k (entry value u) (sofar.going M start light).0 k k<n low;
+      outcome = λ M start light. (refl, below_zero O (Tabled value n M) n k (entry value u) (sofar.going M start light).0 k k<n low);
       kept = sofar.kept;
     }
 
-  pub ran_all : (t u : List (Bound K)) → Running O value weight n n t u → Ran O value weight n t u true
+  pub ran_all : (t u : List (Bound K)) → Running O value weight n n t u → Ran O value weight n t u (Ok tt)
   ran_all t u sofar = record { outcome = λ M start light. (sofar.going M start light).0; kept = sofar.kept }
 
-  pub stays_light : (t u : List (Bound K)) → Running O value weight n n t u → StaysLight O value weight n t u true
-  stays_light t u sofar M start light done =
+  pub stays_light : (t u : List (Bound K)) → Running O value weight n n t u → StaysLight O value weight n t u (Ok tt)
+  stays_light t u sofar M start light =
       let small : 2 ^ n ≤ 2 ^ 8 = pow_mono {i = n} {j = 8} n≤8 in
       λ i j p q. omega (arith, (sofar.going M start light).1 i j p q)
 
@@ -157,3 +159,10 @@ module _ {K G : Type 0} (O : Ordered G) (value : K → G) where
       light : (b : Bound G) → admits bound b ≡ true → weighs weight b ≤ 1
       light (At x) h = weighed.bound_weighs x h
       light NoBound h = omega arith
+
+  -- what the rounds came to is what closing answers
+  pub closes : (bound : G → Bool) (n : ℕ) (t u : List (Bound K)) (end : Result (Unit {0}) Unclosed) → InRange n t → Admitted value bound n t → MatchResult end (λ _. Going O (Tabled value n t) n n (entry value u)) (λ e. (e ≡ Contradiction) × Contradictory O (Tabled value n t)) → Closes value O bound n t u end
+  closes bound n t u (Ok done) range all going = (range, all, consistent O (Tabled value n t) n (entry value u) (λ i j x h. (h.0, h.1)) going, closed O (Tabled value n t) n (entry value u) (λ i j x h. (h.0, h.1)) going)
+  closes bound n t u (Err Contradiction) range all cycle = (range, all, cycle.1)
+  closes bound n t u (Err OutOfRange) range all cycle = let no : ◌≡◌ OutOfRange Contradiction = cycle.0 in absurd cc
+  closes bound n t u (Err NotAdmitted) range all cycle = let no : ◌≡◌ NotAdmitted Contradiction = cycle.0 in absurd cc

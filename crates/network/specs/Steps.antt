@@ -1,10 +1,12 @@
 -- What the parts of the closure do to a table.
-use Rattle.std.specs.Prelude.{◌≡◌, ℕ, ◌+◌, ◌^◌, ◌<◌, ◌≤◌, Bool, true, ◌⊎◌, List, MatchBool, ◌≢◌, slice_index_or}
+use Rattle.std.specs.Prelude.{◌≡◌, ℕ, ◌+◌, ◌^◌, ◌<◌, ◌≤◌, true, ◌⊎◌, List, Result, MatchResult, OnOk, ◌≢◌, slice_index_or}
 use Rattle.kinds.specs.Ordered.{Ordered}
 use Rattle.kinds.specs.Bounds.{join, at_most, weighs, meant}
 use Rattle.kinds.specs.declared.bound.Bound.{Bound}
 use Rattle.kinds.specs.declared.bound.Bound.TheVariants.{NoBound}
 use Rattle.kinds.specs.declared.bound.Bound.TheVariants.{At}
+use Rattle.network.specs.declared.closing.Unclosed.{Unclosed}
+use Rattle.network.specs.declared.closing.Unclosed.TheVariants.{Contradiction}
 use Rattle.network.specs.Chains.{Chain, Contradictory}
 use Rattle.network.specs.Tables.{cell, entry, Tabled, Elsewhere}
 
@@ -72,10 +74,10 @@ module _ {K G : Type 0} (O : Ordered G) (value : K → G) (weight : G → ℕ) (
     pub kept : Elsewhere n t u
 
   -- all rounds are done, or a cycle below zero was met
-  pub record Ran (t u : List (Bound K)) (done : Bool) : Type 0 where
-    pub outcome : (M : List (Bound K)) → Going O (Tabled value n M) n 0 (entry value t) → Light value weight n 1 t → MatchBool done (Going O (Tabled value n M) n n (entry value u)) (Contradictory O (Tabled value n M))
+  pub record Ran (t u : List (Bound K)) (end : Result (Unit {0}) Unclosed) : Type 0 where
+    pub outcome : (M : List (Bound K)) → Going O (Tabled value n M) n 0 (entry value t) → Light value weight n 1 t → MatchResult end (λ _. Going O (Tabled value n M) n n (entry value u)) (λ e. (e ≡ Contradiction) × Contradictory O (Tabled value n M))
     pub kept : Elsewhere n t u
 
   -- bounds that were light before the rounds are still light enough to be added to a stamp when all are done
-  abbrev pub StaysLight : List (Bound K) → List (Bound K) → Bool → Type 0
-  StaysLight t u done = (M : List (Bound K)) → Going O (Tabled value n M) n 0 (entry value t) → Light value weight n 1 t → done ≡ true → Light value weight n 256 u
+  abbrev pub StaysLight : List (Bound K) → List (Bound K) → Result (Unit {0}) Unclosed → Type 0
+  StaysLight t u end = (M : List (Bound K)) → Going O (Tabled value n M) n 0 (entry value t) → Light value weight n 1 t → OnOk end (Light value weight n 256 u)

@@ -1,11 +1,9 @@
-// The closure of Floyd and Warshall over a lent table.
-ghost use Rattle.std.specs.Prelude.{◌≡◌, ℕ, ◌+◌, ◌*◌, ◌<◌, ◌≤◌, true, false, length, is_some, Some, Decides, ◌≢◌, IfOk};
-ghost use Rattle.kinds.specs.Bounds.{at_most, join, weighs, meant};
+// The closure of Floyd and Warshall over a lent table: functions over the slice of its bounds, which stays the caller's.
+ghost use Rattle.std.specs.Prelude.{◌≡◌, ◌≢◌, ℕ, ◌+◌, ◌*◌, ◌<◌, ◌≤◌, true, length, is_some, Some, Decides, IfOk, OkIff, IsOkUnless};
+ghost use Rattle.kinds.specs.Bounds.{at_most, join, weighs, meant, admits};
 ghost use Rattle.kinds.specs.declared.bound.Bound.TheVariants.{At, NoBound};
-ghost use Rattle.network.specs.Tables.{cell, entry, Inside, InRange};
+ghost use Rattle.network.specs.Tables.{cell, entry, Inside, InRange, Admitted, Closes, Elsewhere};
 ghost use Rattle.network.specs.Steps.{Lesser, Relaxed, Rounding, Grounded, Ran, Light, StaysLight};
-ghost use Rattle.network.specs.Tables.{Admitted, Closes, Elsewhere};
-ghost use Rattle.kinds.specs.Bounds.{admits};
 
 use crate::cells::{CELLS, MOST_VARIABLES, get, lower};
 use kinds::bound::Bound;
@@ -29,7 +27,9 @@ fn joined<K: Kind>(table: &[Bound<K>], via: &Bound<K>, k: usize, j: usize) -> Op
 
 // Lowers each bound from i to the way by k, which is another variable.
 fn relax_row<K: Kind>(table: &mut [Bound<K>], width: usize, k: usize, i: usize)
-    requires { (Inside i k table.old) × ((InRange width table.old) × ((i ≢ k))) }
+    requires inside { Inside i k table.old }
+    requires range { InRange width table.old }
+    requires other { i ≢ k }
     ensures { Relaxed K.group K.value K.weight i k width table.old table.new }
 {
     let via = get(table, i, k);
@@ -42,9 +42,11 @@ fn relax_row<K: Kind>(table: &mut [Bound<K>], width: usize, k: usize, i: usize)
 
 // Lowers each bound to the way by k.
 fn relax<K: Kind>(table: &mut [Bound<K>], width: usize, k: usize)
-    requires { (InRange width table.old) × (k < width) }
+    requires range { InRange width table.old }
+    requires among { k < width }
     ensures { Rounding K.group K.value K.weight width k width table.old table.new }
 {
+    // By numbers: each turn reads and writes other rows of the one slice.
     for i in 0..width {
         if i != k {
             relax_row(table, width, k, i);
@@ -72,8 +74,8 @@ fn is_settled<K: Kind>(table: &[Bound<K>], k: usize) -> bool
     zero.at_most(&get(table, k, k))
 }
 
-// The rounds of the closure; false where a cycle sums below zero.
-fn rounds<K: Kind>(table: &mut [Bound<K>], width: usize) -> bool
+// The rounds of the closure, up to a cycle that sums below zero.
+fn rounds<K: Kind>(table: &mut [Bound<K>], width: usize) -> Result<(), Unclosed>
     requires { InRange width table.old }
     ensures ran { Ran K.group K.value K.weight width table.old table.new result }
     ensures light { StaysLight K.group K.value K.weight width table.old table.new result }
@@ -81,37 +83,45 @@ fn rounds<K: Kind>(table: &mut [Bound<K>], width: usize) -> bool
     for k in 0..width {
         // A cycle below zero shows here, before the round of its highest variable.
         if !is_settled(table, k) {
-            return false;
+            return Err(Unclosed::Contradiction);
         }
         relax(table, width, k);
     }
-    true
+    Ok(())
 }
 
 // Whether each of the bounds from i is admitted.
 fn row_admitted<K: Kind>(table: &[Bound<K>], width: usize, i: usize) -> bool
-    requires { (InRange width table.now) × (i < width) }
+    requires range { InRange width table.now }
+    requires among { i < width }
     ensures { Decides result ((j : ℕ) → j < width → admits K.bound (entry K.value table.now i j) ≡ true) }
 {
-    for j in 0..width {
-        if !get(table, i, j).is_admitted() {
-            return false;
-        }
-    }
-    true
+    (0..width).all(|j| get(table, i, j).is_admitted())
 }
 
-// Whether each bound among the variables is admitted.
-fn all_admitted<K: Kind>(table: &[Bound<K>], width: usize) -> bool
+// Refuses bounds among the variables that are not admitted.
+fn check_admitted<K: Kind>(table: &[Bound<K>], width: usize) -> Result<(), Unclosed>
     requires { InRange width table.now }
-    ensures { Decides result (Admitted K.value K.bound width table.now) }
+    ensures admitted { OkIff result (Admitted K.value K.bound width table.now) tt }
+    ensures refused { IsOkUnless result Unclosed.NotAdmitted }
 {
     for i in 0..width {
         if !row_admitted(table, width, i) {
-            return false;
+            return Err(Unclosed::NotAdmitted);
         }
     }
-    true
+    Ok(())
+}
+
+// Refuses more or fewer variables than a table has.
+fn check_range<K: Kind>(table: &[Bound<K>], width: usize) -> Result<(), Unclosed>
+    ensures range { OkIff result (InRange width table.now) tt }
+    ensures refused { IsOkUnless result Unclosed.OutOfRange }
+{
+    if width < 1 || width > MOST_VARIABLES || table.len() < CELLS {
+        return Err(Unclosed::OutOfRange);
+    }
+    Ok(())
 }
 
 // Closes the bounds among the first `width` variables of a table: each becomes the smallest sum over all chains of them.
@@ -121,15 +131,8 @@ pub fn close<K: Kind>(table: &mut [Bound<K>], width: usize) -> Result<(), Unclos
     ensures elsewhere { Elsewhere width table.old table.new }
     ensures light { IfOk result (λ _. Light K.value K.weight width 256 table.new) }
 {
-    if width < 1 || width > MOST_VARIABLES || table.len() < CELLS {
-        return Err(Unclosed::OutOfRange);
-    }
-    if !all_admitted(table, width) {
-        return Err(Unclosed::NotAdmitted);
-    }
+    check_range(table, width)?;
+    check_admitted(table, width)?;
     ground(table, width);
-    if !rounds(table, width) {
-        return Err(Unclosed::Contradiction);
-    }
-    Ok(())
+    rounds(table, width)
 }

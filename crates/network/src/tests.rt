@@ -1,6 +1,6 @@
 // Networks of few bounds and of the widest, closed or refused.
 use crate::closing::{Unclosed, close};
-use crate::table::{bound_between, empty, tighten};
+use crate::table::{NoRoom, Outside, bound_between, empty, tighten};
 use kinds::bound::Bound;
 use kinds::pairs::Pairs;
 use kinds::ticks::Ticks;
@@ -10,12 +10,22 @@ use std::test::Fail;
 const LIMIT: i64 = 4_294_967_296;
 
 fn bind(rt: &impl Abort, table: &mut [Bound<Ticks>], from: usize, to: usize, count: i64) {
-    assert!(rt; tighten(table, from, to, Bound::At(Ticks { count })));
+    assert_eq!(rt;
+        tighten(table, from, to, Bound::At(Ticks { count })),
+        Ok(())
+    );
 }
 
 fn between(table: &[Bound<Ticks>], from: usize, to: usize) -> Option<i64> {
     match bound_between(table, from, to) {
         Some(Bound::At(ticks)) => Some(ticks.count),
+        _ => None,
+    }
+}
+
+fn pair_between(table: &[Bound<Pairs>], from: usize, to: usize) -> Option<(i64, i64)> {
+    match bound_between(table, from, to) {
+        Some(Bound::At(pair)) => Some((pair.tick, pair.place)),
         _ => None,
     }
 }
@@ -65,15 +75,12 @@ fn a_cycle_below_zero_contradicts(rt: HostRuntime) {
 #[test]
 fn pairs_may_contradict_by_place_alone(rt: HostRuntime) -> Result<(), Fail> {
     let mut table = [Bound::NoBound; 64];
-    assert!(rt; tighten(&mut table, 0, 1, Bound::At(Pairs { tick: 3, place: 0 })));
-    assert!(rt; tighten(&mut table, 1, 2, Bound::At(Pairs { tick: 0, place: -1 })));
-    assert!(rt; tighten(&mut table, 2, 0, Bound::At(Pairs { tick: -3, place: 1 })));
+    tighten(&mut table, 0, 1, Bound::At(Pairs { tick: 3, place: 0 }))?;
+    tighten(&mut table, 1, 2, Bound::At(Pairs { tick: 0, place: -1 }))?;
+    tighten(&mut table, 2, 0, Bound::At(Pairs { tick: -3, place: 1 }))?;
     close(&mut table, 3)?;
-    match bound_between(&table, 0, 2) {
-        Some(Bound::At(pair)) => assert!(rt; pair.tick == 3 && pair.place == -1),
-        _ => assert!(rt; false),
-    }
-    assert!(rt; tighten(&mut table, 2, 0, Bound::At(Pairs { tick: -3, place: 0 })));
+    assert_eq!(rt; pair_between(&table, 0, 2), Some((3, -1)));
+    tighten(&mut table, 2, 0, Bound::At(Pairs { tick: -3, place: 0 }))?;
     assert_eq!(rt; close(&mut table, 3), Err(Unclosed::Contradiction));
     Ok(())
 }
@@ -86,8 +93,8 @@ fn other_widths_and_short_tables_are_refused(rt: HostRuntime) {
     assert_eq!(rt; close(&mut table, 8), Ok(()));
     let mut short = [Bound::At(Ticks { count: 0 }); 63];
     assert_eq!(rt; close(&mut short, 1), Err(Unclosed::OutOfRange));
-    assert!(rt; !tighten(&mut short, 0, 0, Bound::NoBound));
-    assert!(rt; !empty(&mut short));
+    assert_eq!(rt; tighten(&mut short, 0, 0, Bound::NoBound), Err(Outside));
+    assert_eq!(rt; empty(&mut short), Err(NoRoom));
     assert!(rt; bound_between(&short, 0, 0).is_none());
     assert!(rt; matches!(short[0], Bound::At(_)));
 }
@@ -97,7 +104,7 @@ fn bounds_beyond_the_limit_are_not_admitted(rt: HostRuntime) {
     let mut table = [Bound::At(Ticks { count: LIMIT + 1 }); 64];
     assert_eq!(rt; close(&mut table, 1), Err(Unclosed::NotAdmitted));
     assert_eq!(rt; between(&table, 0, 0), Some(LIMIT + 1));
-    assert!(rt; empty(&mut table));
+    assert_eq!(rt; empty(&mut table), Ok(()));
     assert_eq!(rt; between(&table, 7, 7), None);
     bind(&rt, &mut table, 2, 2, LIMIT + 1);
     assert_eq!(rt; close(&mut table, 2), Ok(()));
@@ -132,9 +139,9 @@ fn the_smaller_of_two_bounds_is_kept(rt: HostRuntime) {
     assert_eq!(rt; between(&table, 7, 0), Some(5));
     bind(&rt, &mut table, 7, 0, -6);
     assert_eq!(rt; between(&table, 7, 0), Some(-6));
-    assert!(rt; tighten(&mut table, 7, 0, Bound::NoBound));
+    assert_eq!(rt; tighten(&mut table, 7, 0, Bound::NoBound), Ok(()));
     assert_eq!(rt; between(&table, 7, 0), Some(-6));
-    assert!(rt; !tighten(&mut table, 8, 0, Bound::NoBound));
-    assert!(rt; !tighten(&mut table, 0, 8, Bound::NoBound));
+    assert_eq!(rt; tighten(&mut table, 8, 0, Bound::NoBound), Err(Outside));
+    assert_eq!(rt; tighten(&mut table, 0, 8, Bound::NoBound), Err(Outside));
     assert!(rt; bound_between(&table, 0, 8).is_none());
 }
