@@ -7,7 +7,7 @@ use Rattle.text.specs.Lines.{line_of}
 use Rattle.text.specs.Split.{split, first_place}
 use Rattle.text.proofs.FirstLines.{line_after}
 use Rattle.text.proofs.Splits.{split_none, split-some, split_some_part, place_within}
-use Rattle.logs.specs.declared.ending.Ending.TheVariants.{Clean, Faulty}
+use Rattle.logs.specs.Endings.{clean_end, fault_end}
 use Rattle.logs.specs.Lined.{Passes}
 use Rattle.logs.specs.LogLines.{line_says}
 use Rattle.logs.specs.Reading.{then, at_end, before, unless, judged, records_from, ending_from}
@@ -44,7 +44,7 @@ module _ {G : Type 0} (fields : ℕ) (means : List (List ℕ) → Option G) (sta
   pub records_end : (text : List ℕ) (from : ℕ) → length text ≤ from → records_from fields means stamp n (split 10 (drop from text)) ≡ []
   records_end text from h = rw (drop_all from text h)
 
-  pub ending_end : (log : ℕ) (text : List ℕ) (from : ℕ) → length text ≤ from → ending_from fields means stamp log n (split 10 (drop from text)) ≡ Clean
+  pub ending_end : (log : ℕ) (text : List ℕ) (from : ℕ) → length text ≤ from → ending_from fields means stamp log n (split 10 (drop from text)) ≡ clean_end
   ending_end log text from h = rw (drop_all from text h)
 
   pub records_fault : (ps : List (List ℕ)) (f : Fault) → judged fields means stamp n ps ≡ Err f → records_from fields means stamp n ps ≡ []
@@ -52,6 +52,6 @@ module _ {G : Type 0} (fields : ℕ) (means : List (List ℕ) → Option G) (sta
   records_fault (p ∷ ps) f e = ap (λ r. before r (records_from fields means stamp (n + 1) ps)) e
 
   pub ending_fault : (log : ℕ) (ps : List (List ℕ)) (f : Fault) → at_end ps ≡ false → judged fields means stamp n ps ≡ Err f →
-      ending_from fields means stamp log n ps ≡ Faulty (record { log = log; fault = f })
+      ending_from fields means stamp log n ps ≡ fault_end log f
   ending_fault log [] f t e = let z : ◌≡◌ {A = ℕ} 0 1 = cc in absurd (omega arith)
-  ending_fault log (p ∷ ps) f t e = cond-false (at_end (p ∷ ps)) Clean _ t ∙ ap (λ r. unless log r (ending_from fields means stamp log (n + 1) ps)) e
+  ending_fault log (p ∷ ps) f t e = cond-false (at_end (p ∷ ps)) clean_end _ t ∙ ap (λ r. unless log r (ending_from fields means stamp log (n + 1) ps)) e

@@ -5,11 +5,10 @@ ghost use Rattle.logs.specs.Merging.{merged_list, merged_ending};
 ghost use Rattle.logs.specs.MergeLaws.{MergeLaw};
 ghost use Rattle.logs.specs.Turns.{turn, Turns};
 
-use crate::ending::Ending;
 use crate::source::{Next, Source};
 use kinds::kind::Kind;
 
-#[derive(Clone, Copy)]
+#[derive(Clone, Copy, Debug, PartialEq, Eq)]
 enum Side {
     First,
     Second,
@@ -21,13 +20,6 @@ pub struct Merge<A, B> {
     second: B,
 }
 
-fn paired<K: Kind, A: Source<K>, B: Source<K>>(first: A, second: B) -> Merge<A, B>
-    ensures sources { (result.first ≡ first) × (result.second ≡ second) }
-    ensures law { MergeLaw K.group.leq (A.Source.waiting K.Kind first) (A.Source.ending K.Kind first) (B.Source.waiting K.Kind second) (B.Source.ending K.Kind second) }
-{
-    Merge { first, second }
-}
-
 impl<A, B> Merge<A, B> {
     pub fn new<K: Kind>(first: A, second: B) -> Merge<A, B>
     where
@@ -36,7 +28,7 @@ impl<A, B> Merge<A, B> {
         ensures sources { (result.first ≡ first) × (result.second ≡ second) }
         ensures law { MergeLaw K.group.leq (A.Source.waiting K.Kind first) (A.Source.ending K.Kind first) (B.Source.waiting K.Kind second) (B.Source.ending K.Kind second) }
     {
-        paired::<K, A, B>(first, second)
+        Merge { first, second }
     }
 }
 
@@ -45,17 +37,10 @@ fn whose_turn<K: Kind>(a: &Next<K>, b: &Next<K>) -> Side
     ensures { result ≡ turn K.group.leq (meant K.value a.now) (meant K.value b.now) }
 {
     match (a, b) {
-        (Next::Ends(Ending::Clean), _) => Side::Second,
-        (Next::Ends(Ending::Faulty(_)), _) => Side::First,
-        (Next::Waits(_), Next::Ends(Ending::Clean)) => Side::First,
-        (Next::Waits(_), Next::Ends(Ending::Faulty(_))) => Side::Second,
-        (Next::Waits(x), Next::Waits(y)) => {
-            if x.stamp.at_most(&y.stamp) {
-                Side::First
-            } else {
-                Side::Second
-            }
-        }
+        (Err(_), _) => Side::First,
+        (Ok(Some(_)), Ok(None)) => Side::First,
+        (Ok(Some(x)), Ok(Some(y))) if x.stamp.at_most(&y.stamp) => Side::First,
+        _ => Side::Second,
     }
 }
 

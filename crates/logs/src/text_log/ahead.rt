@@ -5,7 +5,7 @@ ghost use Rattle.logs.specs.Reading.{judged, records_from, ending_from};
 ghost use Rattle.logs.specs.Lined.{ReadsRecord};
 ghost use Rattle.logs.specs.TextLogs.{ahead_waiting, ahead_ending};
 
-use crate::ending::{Ending, LogFault};
+use crate::ending::LogFault;
 use crate::line::read_line;
 use crate::record::Record;
 use crate::source::Next;
@@ -42,7 +42,8 @@ fn read_record<K: Kind>(text: &[u8], from: usize, number: usize) -> Result<Lined
 
 /// What comes next in the log of that number after so many lines, of which the next begins at byte `cursor`.
 pub fn read_ahead<K: Kind>(text: &[u8], log: u8, lines: usize, cursor: usize) -> Ahead<K>
-    requires { (cursor ≤ length text.now) × (lines ≤ cursor) }
+    requires within { cursor ≤ length text.now }
+    requires counted { lines ≤ cursor }
     ensures waiting { ahead_waiting K.Kind text.now result ≡ records_from K.fields K.means K.stamp (lines + 1) (split 10 (drop cursor text.now)) }
     ensures ending { ahead_ending K.Kind log text.now result ≡ ending_from K.fields K.means K.stamp log (lines + 1) (split 10 (drop cursor text.now)) }
     ensures within { result.cursor ≤ length text.now }
@@ -50,19 +51,19 @@ pub fn read_ahead<K: Kind>(text: &[u8], log: u8, lines: usize, cursor: usize) ->
 {
     if cursor >= text.len() {
         return Ahead {
-            next: Next::Ends(Ending::Clean),
+            next: Ok(None),
             lines,
             cursor,
         };
     }
     match read_record::<K>(text, cursor, lines + 1) {
-        Ok(read) => Ahead {
-            next: Next::Waits(read.record),
+        Ok(Lined { record, end }) => Ahead {
+            next: Ok(Some(record)),
             lines: lines + 1,
-            cursor: read.end,
+            cursor: end,
         },
         Err(fault) => Ahead {
-            next: Next::Ends(Ending::Faulty(LogFault { log, fault })),
+            next: Err(LogFault { log, fault }),
             lines,
             cursor,
         },

@@ -1,6 +1,6 @@
 use Rattle.std.proofs.Common.{refl}
 use Rattle.logs.proofs.Lawful.{log_law}
-use Rattle.logs.proofs.text_log.calls.opened.Goals as goal
+use Rattle.logs.proofs.text_log.TextLog.open.Goals as goal
 
 pub returns : goal.returns
 returns g c =

@@ -1,6 +1,6 @@
 use Rattle.std.proofs.Common.{refl}
 use Rattle.logs.proofs.Interleaving.{merge_law}
-use Rattle.logs.proofs.merge.paired.Goals as goal
+use Rattle.logs.proofs.merge.Merge.new.Goals as goal
 
 pub returns : goal.returns
 returns g c =
