@@ -2,16 +2,12 @@
 -- stops at a line's start ends clean.
 use Rattle.std.specs.Prelude.{ℕ, ◌+◌, Bool, true, false, cond, List, [], ◌∷◌, length, Ok, Err, Option, Result, ◌==◌}
 use Rattle.text.specs.declared.fault.Fault.{Fault}
+use Rattle.text.specs.Following.{then}
 use Rattle.text.specs.Lines.{line_of}
 use Rattle.text.specs.Split.{split}
 use Rattle.logs.specs.Endings.{Ending, clean_end, fault_end}
 use Rattle.logs.specs.Events.{Event}
 use Rattle.logs.specs.LogLines.{line_says}
-
--- the answer of one test after another
-abbrev pub then : {A B : Type 0} → Result A Fault → (A → Result B Fault) → Result B Fault
-then (Ok x) next = next x
-then (Err f) next = Err f
 
 -- nothing is left of a text that is cut at its line feeds
 abbrev pub at_end : List (List ℕ) → Bool

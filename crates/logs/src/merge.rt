@@ -21,6 +21,7 @@ pub struct Merge<A, B> {
 }
 
 impl<A, B> Merge<A, B> {
+    #[tactic(auto, using(crate::proofs::Interleaving::merge_law))]
     pub fn new<K: Kind>(first: A, second: B) -> Merge<A, B>
     where
         A: Source<K>,
@@ -45,6 +46,7 @@ fn whose_turn<K: Kind>(a: &Next<K>, b: &Next<K>) -> Side
 }
 
 /// Whose turn it is, by a look at each.
+#[tactic(auto, using(crate::proofs::Turning::turn_turns))]
 fn pick<K: Kind, A: Source<K>, B: Source<K>>(a: &A, b: &B) -> Side
     ensures { Turns K.group.leq (A.Source.waiting K.Kind a.now) (A.Source.ending K.Kind a.now) (B.Source.waiting K.Kind b.now) (B.Source.ending K.Kind b.now) result }
 {

@@ -29,6 +29,7 @@ pub struct Lined<K> {
 }
 
 /// The record in line `number`, which begins at byte `from`.
+#[tactic(auto, using(crate::proofs::Passing::line_passes))]
 fn read_record<K: Kind>(text: &[u8], from: usize, number: usize) -> Result<Lined<K>, Fault>
     ensures { ReadsRecord K.value text.now from (judged K.fields K.means K.stamp number (split 10 (drop from text.now))) result }
 {
@@ -41,6 +42,7 @@ fn read_record<K: Kind>(text: &[u8], from: usize, number: usize) -> Result<Lined
 }
 
 /// What comes next in the log of that number after so many lines, of which the next begins at byte `cursor`.
+#[tactic(auto, using(crate::proofs::Passing::ends_here))]
 pub fn read_ahead<K: Kind>(text: &[u8], log: u8, lines: usize, cursor: usize) -> Ahead<K>
     requires within { cursor ≤ length text.now }
     requires counted { lines ≤ cursor }

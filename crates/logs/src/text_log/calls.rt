@@ -11,6 +11,7 @@ use text::lines;
 
 impl<'a, K: Kind> TextLog<'a, K> {
     /// The log of that number in a text.
+    #[tactic(auto, using(crate::proofs::Lawful::log_law))]
     pub fn open(text: &'a [u8], log: u8) -> TextLog<'a, K>
         ensures { Opens K.Kind log text.now result }
     {
