@@ -55,7 +55,7 @@ module _ {G : Type 0} (group : Ordered G) where
   undercuts_heads : (y : Event G) (xs : List (Event G)) → Undercuts group.leq y xs → Heads group.leq y xs
   undercuts_heads y [] h = tt
   undercuts_heads y (x ∷ xs) h =
-      elim (group.leq_total x.stamp y.stamp) [ inl l ↦ let z : ◌≡◌ {A = ℕ} 0 1 = cc in absurd (omega arith) | inr l ↦ l ]
+      elim (group.leq_total x.stamp y.stamp) [ inl l ↦ absurd (cc) | inr l ↦ l ]
 
   rising_given : {e f : Ending} {xs ys zs ls rs : List (Event G)} → Interleaves group.leq e f xs ys zs ls rs →
       Rising group.leq xs → Rising group.leq ys → Rising group.leq (zs ++ ls) × Rising group.leq (zs ++ rs)

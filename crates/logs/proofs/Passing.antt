@@ -49,7 +49,7 @@ module _ {G : Type 0} (fields : ℕ) (means : List (List ℕ) → Option G) (sta
 
   ending_stops : (log : ℕ) (ps : List (List ℕ)) (f : Fault) → at_end ps ≡ false → judged fields means stamp n ps ≡ Err f →
       ending_from fields means stamp log n ps ≡ fault_end log f
-  ending_stops log [] f t e = let z : ◌≡◌ {A = ℕ} 0 1 = cc in absurd (omega arith)
+  ending_stops log [] f t e = absurd (cc)
   ending_stops log (p ∷ ps) f t e = cond-false (at_end (p ∷ ps)) clean_end _ t ∙ ap (λ r. unless log r (ending_from fields means stamp log (n + 1) ps)) e
 
   pub ending_fault : (log : ℕ) (text : List ℕ) (from : ℕ) (f : Fault) → from < length text → judged fields means stamp n (split 10 (drop from text)) ≡ Err f →
