@@ -14,7 +14,7 @@ enum Side {
     Second,
 }
 
-#[derive(Drop)]
+#[derive(Debug, PartialEq, Eq, Drop)]
 pub struct Merge<A, B> {
     first: A,
     second: B,
