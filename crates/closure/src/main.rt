@@ -9,7 +9,6 @@ use kinds::bound::Bound;
 use kinds::ticks::Ticks;
 use network::table::bound_between;
 use std::io;
-use std::io::Write;
 use text::fault::Fault;
 
 const PATH: &str = "chronicles.txt";
@@ -17,9 +16,7 @@ const PATH: &str = "chronicles.txt";
 fn print_variables(rt: &HostRuntime, definition: &Definition) -> io::Result<()> {
     for i in 0..definition.types.len() {
         if let Some(name) = definition.types.get(i) {
-            print!(rt; "VAR\t{}\t", i + 1)?;
-            rt.stdout().write_all(name.as_bytes())?;
-            println!(rt)?;
+            println!(rt; "VAR\t{}\t{name}", i + 1)?;
         }
     }
     Ok(())
@@ -55,10 +52,7 @@ fn print_definition(
 }
 
 fn print_fault(rt: &HostRuntime, fault: &Fault) -> io::Result<()> {
-    let number = fault.cause.number();
-    let line = fault.line;
-    let field = fault.field;
-    println!(rt; "ERR\t{number}\t{line}\t{field}")
+    println!(rt; "ERR\t{fault}")
 }
 
 // The definitions one after another, each into a slot of its own; false where one is refused.

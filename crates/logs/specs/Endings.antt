@@ -20,4 +20,4 @@ is_clean e = is_ok e
 
 abbrev pub numbers_of : Ending → EndingNumbers
 numbers_of (Ok u) = record { number = 0; log = 0; line = 0; field = 0 }
-numbers_of (Err f) = record { number = number_of f.fault.cause; log = f.log; line = f.fault.line; field = f.fault.field }
+numbers_of (Err f) = record { number = number_of f.fault.cause; log = f.log; line = f.fault.place.line; field = f.fault.place.field }

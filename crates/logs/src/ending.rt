@@ -35,10 +35,10 @@ impl From<Ending> for EndingNumbers {
                 field: 0,
             },
             Err(LogFault { log, fault }) => EndingNumbers {
-                number: fault.cause.number(),
+                number: u8::from(fault.cause),
                 log,
-                line: fault.line,
-                field: fault.field,
+                line: fault.place.line,
+                field: fault.place.field,
             },
         }
     }
