@@ -8,6 +8,7 @@ use Rattle.text.specs.Lines.{line_of}
 use Rattle.text.specs.Names.{is_name}
 use Rattle.text.specs.Split.{split}
 use Rattle.text.proofs.Splits.{split_some_part}
+use Rattle.text.specs.Following.{then}
 use Rattle.kinds.specs.Fields.{Takes}
 use Rattle.definitions.specs.declared.words.Word.{Word}
 use Rattle.definitions.specs.declared.words.Word.TheVariants.{Chronicle as Opens, Var, Bound, End}
@@ -19,7 +20,7 @@ use Rattle.definitions.specs.Grammar.Follows.{opens, names, bounds, ends}
 use Rattle.definitions.specs.Grammar.MadeOf.{last, more}
 use Rattle.definitions.specs.Grammar.FirstFault.{here, later}
 use Rattle.definitions.specs.Lines.{word_at, fields_of, small, admitted, valued, worded, item_of}
-use Rattle.definitions.specs.Reading.{blank, then, is_loaded, is_closing, is_pair, accepted, Sound, Reading, judged, after, read_from}
+use Rattle.definitions.specs.Reading.{blank, is_loaded, is_closing, is_pair, accepted, Sound, Reading, judged, after, read_from}
 use Rattle.definitions.proofs.Drafting.{pair_passes}
 use Rattle.definitions.proofs.Items.{given_some, item_valued}
 use Rattle.definitions.proofs.Judging.{given_ok, cond_ok, same_ok, judged_is}

@@ -4,10 +4,11 @@ use Rattle.std.proofs.lemmas.Bool.{cond-true, eq-eqb}
 use Rattle.text.specs.declared.fault.Cause.TheVariants.{BadField, BadLine}
 use Rattle.text.specs.declared.fault.Fault.{Fault}
 use Rattle.text.specs.Faults.{fault_at}
+use Rattle.text.specs.Following.{given}
 use Rattle.definitions.specs.declared.words.Word.{Word}
 use Rattle.definitions.specs.declared.words.Word.TheVariants.{Bound}
 use Rattle.definitions.specs.Chronicles.Said.{limit}
-use Rattle.definitions.specs.Lines.{word_at, fields_of, given, small, admitted, limit_of, valued, worded, item_of}
+use Rattle.definitions.specs.Lines.{word_at, fields_of, small, admitted, limit_of, valued, worded, item_of}
 
 pub given_none : {A B : Type 0} (o : Option A) (f : Fault) (next : A → Result B Fault) → o ≡ None → given o f next ≡ Err f
 given_none o f next e = ap (λ p. given p f next) e

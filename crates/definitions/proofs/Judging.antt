@@ -4,12 +4,13 @@ use Rattle.text.specs.declared.fault.Fault.{Fault}
 use Rattle.text.specs.Lines.{line_of}
 use Rattle.text.specs.Names.{is_name}
 use Rattle.text.specs.Split.{split}
+use Rattle.text.specs.Following.{given, then}
 use Rattle.definitions.specs.declared.words.Word.{Word}
 use Rattle.definitions.specs.declared.words.Word.TheVariants.{Chronicle as Opens, Var, Bound, End}
 use Rattle.definitions.specs.Chronicles.{Chronicle, Said}
 use Rattle.definitions.specs.Drafts.{Admits, Agrees}
-use Rattle.definitions.specs.Lines.{word_at, fields_of, given, small, admitted, valued, worded, item_of}
-use Rattle.definitions.specs.Reading.{then, is_closing, accepted, judged}
+use Rattle.definitions.specs.Lines.{word_at, fields_of, small, admitted, valued, worded, item_of}
+use Rattle.definitions.specs.Reading.{is_closing, accepted, judged}
 use Rattle.definitions.specs.Steps.{Steps}
 
 pub given_ok : {A B : Type 0} (o : Option A) (f : Fault) (next : A → Result B Fault) (y : B) → given o f next ≡ Ok y → (x : A) × (o ≡ Some x) × (next x ≡ Ok y)

@@ -10,6 +10,7 @@ use Rattle.text.specs.Faults.{fault_at}
 use Rattle.text.specs.Lines.{line_of}
 use Rattle.text.specs.Numbers.{whole, within}
 use Rattle.text.specs.Split.{split}
+use Rattle.text.specs.Following.{then}
 use Rattle.kinds.specs.Fields.{Takes}
 use Rattle.definitions.specs.Chronicles.{Chronicle, Said, Given}
 use Rattle.definitions.specs.Chronicles.Said.{opening}
@@ -19,7 +20,7 @@ use Rattle.definitions.specs.Grammar.Follows.{opens, names, bounds, ends}
 use Rattle.definitions.specs.Grammar.MadeOf.{last, more}
 use Rattle.definitions.specs.Lines.{small, item_of}
 use Rattle.definitions.specs.Openings.{Opened, Opens}
-use Rattle.definitions.specs.Reading.{then, blank, is_loaded, accepted, with_slot, Reading, judged, reading_of}
+use Rattle.definitions.specs.Reading.{blank, is_loaded, accepted, with_slot, Reading, judged, reading_of}
 use Rattle.definitions.specs.Steps.{line_end}
 use Rattle.definitions.proofs.Drafting.{given_push}
 use Rattle.definitions.proofs.Grammar.{item_spells, read_made}

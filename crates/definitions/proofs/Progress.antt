@@ -5,11 +5,12 @@ use Rattle.text.specs.declared.fault.Fault.{Fault}
 use Rattle.text.specs.Lines.{line_of}
 use Rattle.text.specs.Split.{split}
 use Rattle.text.proofs.Splits.{split_some_part}
+use Rattle.text.specs.Following.{then}
 use Rattle.definitions.specs.declared.reader.Step.{Step}
 use Rattle.definitions.specs.Chronicles.{Chronicle, Said}
 use Rattle.definitions.specs.Chronicles.Said.{opening, variable, limit, closing}
 use Rattle.definitions.specs.Lines.{item_of}
-use Rattle.definitions.specs.Reading.{then, is_closing, accepted, Sound, Reading, judged, after, read_from}
+use Rattle.definitions.specs.Reading.{is_closing, accepted, Sound, Reading, judged, after, read_from}
 use Rattle.definitions.specs.Steps.{line_end, Steps}
 use Rattle.definitions.proofs.Judging.{cond_ok, same_ok}
 use Rattle.definitions.proofs.Lining.{line_ends, line_rest}

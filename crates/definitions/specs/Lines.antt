@@ -5,6 +5,7 @@ use Rattle.std.specs.Str.{bytes_eq}
 use Rattle.text.specs.declared.fault.Cause.TheVariants.{BadField, BadLine}
 use Rattle.text.specs.declared.fault.Fault.{Fault}
 use Rattle.text.specs.Faults.{fault_at}
+use Rattle.text.specs.Following.{given}
 use Rattle.text.specs.Names.{is_name}
 use Rattle.text.specs.Numbers.{whole, within}
 use Rattle.definitions.specs.declared.words.Word.{Word}
@@ -25,11 +26,6 @@ fields_of fields Chronicle = 2
 fields_of fields Var = 2
 fields_of fields Bound = 3 + fields
 fields_of fields End = 1
-
--- x where it is present, else the fault
-abbrev pub given : {A B : Type 0} → Option A → Fault → (A → Result B Fault) → Result B Fault
-given None f next = Err f
-given (Some x) f next = next x
 
 -- a slot or a variable, 1 to 8
 abbrev pub small : List ℕ → Option ℕ

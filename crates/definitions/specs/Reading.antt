@@ -3,16 +3,12 @@ use Rattle.std.specs.Prelude.{ℕ, ◌+◌, ◌-◌, Bool, true, false, cond, no
 use Rattle.text.specs.declared.fault.Cause.TheVariants.{Unfinished, TooMany, BadPair, SlotLoaded}
 use Rattle.text.specs.declared.fault.Fault.{Fault}
 use Rattle.text.specs.Faults.{fault_at}
+use Rattle.text.specs.Following.{then}
 use Rattle.text.specs.Lines.{line_of}
 use Rattle.text.specs.Split.{split}
 use Rattle.definitions.specs.Chronicles.{Limit, Chronicle, Said}
 use Rattle.definitions.specs.Chronicles.Said.{opening, variable, limit, closing}
 use Rattle.definitions.specs.Lines.{item_of}
-
--- the answer of one test after another
-abbrev pub then : {A B : Type 0} → Result A Fault → (A → Result B Fault) → Result B Fault
-then (Ok x) next = next x
-then (Err f) next = Err f
 
 -- slots count from 1
 abbrev pub is_loaded : List Bool → ℕ → Bool

@@ -115,6 +115,13 @@ module _ {G : Type 0} (group : Ordered G) (e : Event G) (told told' : List (Line
       let (l, f, i, o) = ((lawful_tells group (event e told ∷ g) lawful s).each x).0 m in
       ((lawful_tells group (event e told' ∷ h) lawful' s).each x).1 (l, sym loadings ∙ f, i, owed_on x.choice x.stamp x.letter l o)
 
+alike_at : {G : Type 0} (group : Ordered G) (e : Event G) (told told' : List (Line G)) (g h : List (Act G)) → Lawful group (event e told ∷ g) → Lawful group (event e told' ∷ h) → NoWithdrawal g → NoWithdrawal h →
+    without_clocks g ≡ without_clocks h → Alike group (event e told ∷ g) (event e told' ∷ h)
+alike_at group e told told' g h lawful lawful' none none' same = record {
+  rows = λ s k. (held_on group e told told' g h lawful lawful' none none' same s k, held_off group e told told' g h lawful lawful' none none' same s k);
+  lines = λ s x. (told_on group e told told' g h lawful lawful' none none' same s x, told_on group e told' told h g lawful' lawful none' none (sym same) s x);
+}
+
 -- the same event, and the same before it
 same_event : {G : Type 0} {e f : Event G} {g h : List (Act G)} → event e [] ∷ g ≡ event f [] ∷ h → (e ≡ f) × (g ≡ h)
 same_event p = (cc, cc)
@@ -134,15 +141,11 @@ clocks_alike {G} group (event e told ∷ g) (event f told' ∷ h) lawful lawful'
     alike f one lawful-f =
         let lawful-e : Lawful group (event e told' ∷ h) = subst (λ x. Lawful group (event x told' ∷ h)) one lawful-f in
         let (none, none') = p.lasting in
-        let same = (same_event p.same).1 in
-        subst (λ x. Alike group (event e told ∷ g) (event x told' ∷ h)) (sym one) (record {
-          rows = λ s k. (held_on group e told told' g h lawful lawful-e none none' same s k, held_off group e told told' g h lawful lawful-e none none' same s k);
-          lines = λ s x. (told_on group e told told' g h lawful lawful-e none none' same s x, told_on group e told' told h g lawful-e lawful none' none (sym same) s x);
-        })
+        subst (λ x. Alike group (event e told ∷ g) (event x told' ∷ h)) (sym one) (alike_at group e told told' g h lawful lawful-e none none' (same_event p.same).1)
 
 -- so with the event named on its own
 pub clocks_do_not_count_lem : {G : Type 0} (group : Ordered G) → ClocksDoNotCount group
 clocks_do_not_count_lem group = record {
-  rows = λ e told told' g h lawful lawful' none none' same s k. (held_on group e told told' g h lawful lawful' none none' same s k, held_off group e told told' g h lawful lawful' none none' same s k);
-  lines = λ e told told' g h lawful lawful' none none' same s x. (told_on group e told told' g h lawful lawful' none none' same s x, told_on group e told' told h g lawful' lawful none' none (sym same) s x);
+  rows = λ e told told' g h lawful lawful' none none' same. (alike_at group e told told' g h lawful lawful' none none' same).rows;
+  lines = λ e told told' g h lawful lawful' none none' same. (alike_at group e told told' g h lawful lawful' none none' same).lines;
 }

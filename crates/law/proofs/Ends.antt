@@ -30,7 +30,7 @@ module _ {G : Type 0} (group : Ordered G) (a : List (Act G)) (act : Act G) where
   -- a line tells an end or a recognition
   pub call_lines : (dead ripe : List (Line G)) → Exactly (LineOf group a act D) dead → Exactly (LineOf group a act R) ripe → Exactly (CallLine group a act) (dead ++ ripe)
   call_lines dead ripe ds rs = exactly_append (LineOf group a act D) (LineOf group a act R) _ dead ripe ds rs
-      (λ x (d, h) (r, h'). let z : D ≡ R = sym d ∙ r in let e : ◌≡◌ {A = ℕ} 0 1 = cc in omega arith)
+      (λ x (d, h) (r, h'). let z : D ≡ R = sym d ∙ r in cc)
       (λ x. (λ line. go x x.letter refl line, ⊎_elim (λ h. h.1) (λ h. h.1)))
     where
       go : (x : Line G) (letter : Letter) → x.letter ≡ letter → CallLine group a act x → LineOf group a act D x ⊎ LineOf group a act R x

@@ -88,7 +88,7 @@ module _ {G : Type 0} (O : Ordered G) (limits : List (Limit G)) where
           record {
             asked = sofar.asked;
             own = sofar.own;
-            each = one_more e sofar.each (λ x is. let z : ◌≡◌ {A = ℕ} 0 1 = cc in absurd (omega arith));
+            each = one_more e sofar.each (λ x is. absurd (cc));
           },
         )
         go (At x) is (e, sofar) = choose (O.leq e (O.plus (floor m) (O.minus x))) refl

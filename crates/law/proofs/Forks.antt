@@ -9,17 +9,11 @@ use Rattle.law.specs.Holding.{at, width, Fills, Choice, Agrees, NotBefore, HeldI
 use Rattle.law.specs.Schedules.{Meets}
 use Rattle.law.proofs.Growing.{loading_with}
 use Rattle.law.proofs.Numbers.{Numbered}
+use Rattle.law.proofs.Searches.{one_or_all}
 
 -- something is filled, or nothing
 filled_or_blank : (k : List ℕ) (n : ℕ) → ((i : ℕ) × (i < n) × (at k i ≡ 0 → ⊥)) ⊎ ((i : ℕ) → i < n → at k i ≡ 0)
-filled_or_blank k zero = inr (λ i h. absurd (omega arith))
-filled_or_blank k (suc n) = ⊎_elim
-    (λ (i, h, nz). inl (i, omega arith, nz))
-    (λ blank. ⊎_elim
-    (λ z. inr (λ i h. ⊎_elim (λ l. blank i l) (λ l. let s : i ≡ n = omega arith in ap (at k) s ∙ z) (cases_lt i n)))
-    (λ nz. inl (n, omega arith, nz))
-    (cases_eq (at k n) 0))
-    (filled_or_blank k n)
+filled_or_blank k n = one_or_all (λ i. at k i ≡ 0 → ⊥) (λ i. at k i ≡ 0) (λ i. ⊎_elim inr inl (cases_eq (at k i) 0)) n
 
 module _ {G : Type 0} (group : Ordered G) (l : Loading G) (now : Option G) (new : Seen G) (n : ℕ) (num : Numbered n l.since) (next : new.number ≡ n + 1) (later : NotBefore group now new.seen.stamp) where
   abbrev after : Loading G

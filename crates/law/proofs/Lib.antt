@@ -1,6 +1,7 @@
 pub mod Groups
 pub mod Extension
 pub mod Numbers
+pub mod Searches
 pub mod Growing
 pub mod Sets
 pub mod Ticks

@@ -23,13 +23,13 @@ use Rattle.law.proofs.Growing.{loading_with}
 use Rattle.law.proofs.Ticks.{no_loading}
 
 small-within : (o : Option ℤ) (s : ℕ) → option_map nat_abs (within (pos 1) (pos 8) o) ≡ Some s → (1 ≤ s) × (s ≤ 8)
-small-within None s e = let z : ◌≡◌ {A = ℕ} 0 1 = cc in absurd (omega arith)
-small-within (Some (negsuc n)) s e = let z : ◌≡◌ {A = ℕ} 0 1 = cc in absurd (omega arith)
+small-within None s e = absurd (cc)
+small-within (Some (negsuc n)) s e = absurd (cc)
 small-within (Some (pos n)) s e = go (leb 1 n && leb n 8) refl e
   where
     go : (b : Bool) → (leb 1 n && leb n 8) ≡ b → option_map nat_abs (cond b (Some (pos n)) None) ≡ Some s → (1 ≤ s) × (s ≤ 8)
     go true t e = let p = and_parts (leb 1 n) (leb n 8) t in let is : n ≡ s = cc in (omega (arith, leb-true 1 n p.0), omega (arith, leb-true n 8 p.1))
-    go false t e = let z : ◌≡◌ {A = ℕ} 0 1 = cc in absurd (omega arith)
+    go false t e = absurd (cc)
 
 -- the slot is one of 1 to 8, and not loaded
 record Free {G : Type 0} (loaded : List Bool) (d : Chronicle G) : Type 0 where

@@ -10,19 +10,13 @@ use Rattle.law.specs.Holding.{at, NotBefore, HeldIn, Held, Recognised}
 use Rattle.law.specs.Telling.{Row, Goes, of_slot, told_of, WasHeld, is, was, OwedAs, Owed, Reads, Tells, CallLine, Lawful}
 use Rattle.law.proofs.Growing.{loading_with, choice_old}
 use Rattle.law.proofs.Numbers.{numbered-at}
+use Rattle.law.proofs.Searches.{one_or_all}
 use Rattle.law.proofs.Sets.{exactly_none, held_or_not}
 use Rattle.law.proofs.Ticks.{same_loading, no_loading, tick_empty, tick_loaded}
 
 -- a place of a choice that has the number m, or none
 pub find : (k : List ℕ) (m n : ℕ) → ((i : ℕ) × (i < n) × (at k i ≡ m)) ⊎ ((i : ℕ) → i < n → at k i ≡ m → ⊥)
-find k m zero = inr (λ i h. absurd (omega arith))
-find k m (suc n) = ⊎_elim
-    (λ (i, h, e). inl (i, omega arith, e))
-    (λ none. ⊎_elim
-    (λ e. inl (n, omega arith, e))
-    (λ ne. inr (λ i h e. ⊎_elim (λ l. none i l e) (λ l. let s : i ≡ n = omega arith in ne (ap (at k) (sym s) ∙ e)) (cases_lt i n)))
-    (cases_eq (at k n) m))
-    (find k m n)
+find k m n = one_or_all (λ i. at k i ≡ m) (λ i. at k i ≡ m → ⊥) (λ i. cases_eq (at k i) m) n
 
 module _ {G : Type 0} (group : Ordered G) where
   -- a call on another slot

@@ -16,7 +16,7 @@ pub same_loading : {G : Type 0} {o : Option (Loading G)} {l m : Loading G} → o
 same_loading p q = cc
 
 pub no_loading : {G A : Type 0} {o : Option (Loading G)} {l : Loading G} → o ≡ None → o ≡ Some l → A
-no_loading p q = let z : ◌≡◌ {A = ℕ} 0 1 = cc in absurd (omega arith)
+no_loading p q = absurd (cc)
 
 module _ {G : Type 0} (group : Ordered G) where
   -- a row that was held is a choice of the loading that lasts

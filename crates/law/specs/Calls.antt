@@ -5,7 +5,7 @@ use Rattle.std.specs.List.{range_with_len}
 use Rattle.text.specs.declared.fault.Fault.{Fault}
 use Rattle.kinds.specs.declared.kind.Kind.{Ghosts as Meaning}
 use Rattle.definitions.specs.Reading.{Reading, reading_of}
-use Rattle.logs.specs.declared.ending.Ending.{Ending}
+use Rattle.logs.specs.Endings.{Ending}
 use Rattle.logs.specs.Events.{Event}
 use Rattle.law.specs.Histories.{Line, Act, load, withdraw, event, clock, loading_of}
 

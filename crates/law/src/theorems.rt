@@ -10,6 +10,7 @@ ghost use Rattle.law.specs.Tests.{ClosedBoundsDecide};
 use kinds::kind::Kind;
 
 // A row is held exactly if its filled variables meet the closed bounds among themselves and no latest stamp of an open one is before now.
+#[tactic(auto, using(crate::proofs::Tests::tests_decide))]
 pub fn closed_bounds_decide<K: Kind>()
     ensures { ClosedBoundsDecide K.group }
 {}
@@ -25,16 +26,19 @@ pub fn new_rows_from_old<K: Kind>()
 {}
 
 // If each call tells just its own lines, then of each loading just the lines owed are told, each once.
+#[tactic(auto, using(crate::proofs::Telling::lawful_tells))]
 pub fn owed_is_told<K: Kind>()
     ensures { OwedIsTold K.group }
 {}
 
 // Whatever clock calls two watches accept besides, after each event both hold the same rows and have told the same lines.
+#[tactic(auto, using(crate::proofs::Clocks::clocks_do_not_count_lem))]
 pub fn clocks_do_not_count<K: Kind>()
     ensures { ClocksDoNotCount K.group }
 {}
 
 // From what single calls answer and tell follows the law for every history: numbers, runs, rows, lines, and the independence from clock calls.
+#[tactic(auto, using(crate::proofs::Laws::law_follows_lem))]
 pub fn law_follows<K: Kind>()
     ensures { (lent : Lent) → LawFollows K.Kind lent }
 {}

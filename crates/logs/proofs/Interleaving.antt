@@ -1,8 +1,7 @@
 -- Why a merge interleaves its sources, and keeps stamps from falling.
-use Rattle.std.proofs.Common.{◌≡◌, ℕ, Bool, true, false, List, [], ◌∷◌, ◌++◌, refl, inl, inr, arith}
+use Rattle.std.proofs.Common.{◌≡◌, ℕ, Bool, true, false, List, [], ◌∷◌, ◌++◌, Ok, Err, refl, inl, inr, arith}
 use Rattle.kinds.specs.Ordered.{Ordered}
-use Rattle.logs.specs.declared.ending.Ending.{Ending}
-use Rattle.logs.specs.declared.ending.Ending.TheVariants.{Clean, Faulty}
+use Rattle.logs.specs.Endings.{Ending, clean_end}
 use Rattle.logs.specs.Events.{Event}
 use Rattle.logs.specs.Merging.{merged_list, merged_ending}
 use Rattle.logs.specs.MergeLaws.{Stops, Heads, Rising, Undercuts, Interleaves, MergeLaw}
@@ -17,21 +16,21 @@ module _ {G : Type 0} (leq : G → G → Bool) where
     interleaves : Interleaves leq e f xs ys zs left_first left_second
     stops : Stops e f left_first left_second r
 
-  all_second : (f : Ending) (ys : List (Event G)) → Interleaves leq Clean f [] ys ys [] []
+  all_second : (f : Ending) (ys : List (Event G)) → Interleaves leq clean_end f [] ys ys [] []
   all_second f [] = none
   all_second f (y ∷ ys) = from_second refl tt (all_second f ys)
 
-  all_first : (e : Ending) (xs : List (Event G)) → Interleaves leq e Clean xs [] xs [] []
+  all_first : (e : Ending) (xs : List (Event G)) → Interleaves leq e clean_end xs [] xs [] []
   all_first e [] = none
   all_first e (x ∷ xs) = from_first refl tt (all_first e xs)
 
   given : (xs : List (Event G)) (e : Ending) (ys : List (Event G)) (f : Ending) → Given xs e ys f (merged_list leq xs e ys f) (merged_ending leq xs e ys f)
-  given [] Clean ys Clean = record { left_first = []; left_second = []; interleaves = all_second Clean ys; stops = clean refl refl }
-  given [] Clean ys (Faulty c) = record { left_first = []; left_second = []; interleaves = all_second (Faulty c) ys; stops = second_fault refl refl }
-  given [] (Faulty c) ys f = record { left_first = []; left_second = ys; interleaves = none; stops = first_fault refl }
-  given (x ∷ xs) Clean [] Clean = record { left_first = []; left_second = []; interleaves = all_first Clean (x ∷ xs); stops = clean refl refl }
-  given (x ∷ xs) (Faulty c) [] Clean = record { left_first = []; left_second = []; interleaves = all_first (Faulty c) (x ∷ xs); stops = first_fault refl }
-  given (x ∷ xs) e [] (Faulty c) = record { left_first = x ∷ xs; left_second = []; interleaves = none; stops = second_fault refl tt }
+  given [] (Ok u) ys (Ok v) = record { left_first = []; left_second = []; interleaves = all_second clean_end ys; stops = clean refl refl }
+  given [] (Ok u) ys (Err c) = record { left_first = []; left_second = []; interleaves = all_second (Err c) ys; stops = second_fault refl refl }
+  given [] (Err c) ys f = record { left_first = []; left_second = ys; interleaves = none; stops = first_fault refl }
+  given (x ∷ xs) (Ok u) [] (Ok v) = record { left_first = []; left_second = []; interleaves = all_first clean_end (x ∷ xs); stops = clean refl refl }
+  given (x ∷ xs) (Err c) [] (Ok u) = record { left_first = []; left_second = []; interleaves = all_first (Err c) (x ∷ xs); stops = first_fault refl }
+  given (x ∷ xs) e [] (Err c) = record { left_first = x ∷ xs; left_second = []; interleaves = none; stops = second_fault refl tt }
   given (x ∷ xs) e (y ∷ ys) f = go (leq x.stamp y.stamp) refl (given xs e (y ∷ ys) f) (given (x ∷ xs) e ys f)
     where
       go : (b : Bool) → leq x.stamp y.stamp ≡ b →
@@ -56,7 +55,7 @@ module _ {G : Type 0} (group : Ordered G) where
   undercuts_heads : (y : Event G) (xs : List (Event G)) → Undercuts group.leq y xs → Heads group.leq y xs
   undercuts_heads y [] h = tt
   undercuts_heads y (x ∷ xs) h =
-      elim (group.leq_total x.stamp y.stamp) [ inl l ↦ let z : ◌≡◌ {A = ℕ} 0 1 = cc in absurd (omega arith) | inr l ↦ l ]
+      elim (group.leq_total x.stamp y.stamp) [ inl l ↦ absurd (cc) | inr l ↦ l ]
 
   rising_given : {e f : Ending} {xs ys zs ls rs : List (Event G)} → Interleaves group.leq e f xs ys zs ls rs →
       Rising group.leq xs → Rising group.leq ys → Rising group.leq (zs ++ ls) × Rising group.leq (zs ++ rs)

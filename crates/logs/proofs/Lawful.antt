@@ -8,10 +8,11 @@ use Rattle.text.specs.declared.fault.Fault.{Fault}
 use Rattle.text.specs.Faults.{fault_at}
 use Rattle.text.specs.Split.{split, without, rejoined}
 use Rattle.text.proofs.Splits.{rejoin_split, split_clear, split_some_part}
-use Rattle.logs.specs.declared.ending.Ending.{Ending}
+use Rattle.text.specs.Following.{then}
+use Rattle.logs.specs.Endings.{Ending}
 use Rattle.logs.specs.Events.{Event}
 use Rattle.logs.specs.LogLines.{line_says}
-use Rattle.logs.specs.Reading.{then, before, unless, records_from, ending_from, records_of, ending_of}
+use Rattle.logs.specs.Reading.{before, unless, records_from, ending_from, records_of, ending_of}
 use Rattle.logs.specs.LogLaw.{LogFrom}
 use Rattle.logs.specs.LogLaw.LogFrom.{stops, unended, too_long, faulty, record_line}
 

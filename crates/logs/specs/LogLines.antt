@@ -4,15 +4,11 @@ use Rattle.std.specs.Option.{option_map}
 use Rattle.text.specs.declared.fault.Cause.TheVariants.{BadField, BadLine}
 use Rattle.text.specs.declared.fault.Fault.{Fault}
 use Rattle.text.specs.Faults.{fault_at}
+use Rattle.text.specs.Following.{given}
 use Rattle.text.specs.Names.{is_name}
 use Rattle.text.specs.Numbers.{whole, within}
 use Rattle.logs.specs.declared.record.Record.{Record}
 use Rattle.logs.specs.Events.{Event, event}
-
--- x where it is present, else the fault
-abbrev pub given : {A B : Type 0} → Option A → Fault → (A → Result B Fault) → Result B Fault
-given None f next = Err f
-given (Some x) f next = next x
 
 -- a gauge has a number from 1 to 9,999
 abbrev pub gauge_of : List ℕ → Option ℕ

@@ -1,21 +1,19 @@
 -- What a merge holds, whatever the two sources are: records of both, each source's in its order, up to its ending; and
 -- stamps that never fall in either never fall in it.
 use Rattle.std.specs.Prelude.{◌≡◌, Bool, true, false, List, [], ◌∷◌, ◌++◌}
-use Rattle.logs.specs.declared.ending.Ending.{Ending}
-use Rattle.logs.specs.declared.ending.Ending.TheVariants.{Clean}
-use Rattle.logs.specs.Endings.{is_clean}
+use Rattle.logs.specs.Endings.{Ending, clean_end, is_clean}
 use Rattle.logs.specs.Events.{Event}
 use Rattle.logs.specs.Merging.{merged_list, merged_ending}
 
 -- a source that is not at a fault: a record waits in it, or it has ended clean
 abbrev pub Sound : {G : Type 0} → List (Event G) → Ending → Type 0
-Sound [] e = e ≡ Clean
+Sound [] e = e ≡ clean_end
 Sound (x ∷ xs) e = Unit {0}
 
 -- how a merge of sources with the endings e and f comes to its ending, by what is left behind in each: nothing in
 -- either, or nothing in the one whose fault it is; the first source's fault goes before the second's
 pub data Stops {G : Type 0} (e f : Ending) : List (Event G) → List (Event G) → Ending → Type 0 where
-  clean : e ≡ Clean → f ≡ Clean → Stops e f [] [] Clean
+  clean : e ≡ clean_end → f ≡ clean_end → Stops e f [] [] clean_end
   first_fault : {rs : List (Event G)} → is_clean e ≡ false → Stops e f [] rs e
   second_fault : {ls : List (Event G)} → is_clean f ≡ false → Sound ls e → Stops e f ls [] f
 

@@ -1,8 +1,7 @@
 -- The merge of two sources as a function of what they mean: the smaller head first, the first source's on equal stamps,
 -- until one that has none waiting ends with a fault.
 use Rattle.std.specs.Prelude.{Bool, cond, List, [], ◌∷◌}
-use Rattle.logs.specs.declared.ending.Ending.{Ending}
-use Rattle.logs.specs.Endings.{is_clean}
+use Rattle.logs.specs.Endings.{Ending, is_clean}
 use Rattle.logs.specs.Events.{Event}
 
 module _ {G : Type 0} (leq : G → G → Bool) where

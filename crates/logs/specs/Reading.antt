@@ -2,17 +2,12 @@
 -- stops at a line's start ends clean.
 use Rattle.std.specs.Prelude.{ℕ, ◌+◌, Bool, true, false, cond, List, [], ◌∷◌, length, Ok, Err, Option, Result, ◌==◌}
 use Rattle.text.specs.declared.fault.Fault.{Fault}
+use Rattle.text.specs.Following.{then}
 use Rattle.text.specs.Lines.{line_of}
 use Rattle.text.specs.Split.{split}
-use Rattle.logs.specs.declared.ending.Ending.{Ending}
-use Rattle.logs.specs.declared.ending.Ending.TheVariants.{Clean, Faulty}
+use Rattle.logs.specs.Endings.{Ending, clean_end, fault_end}
 use Rattle.logs.specs.Events.{Event}
 use Rattle.logs.specs.LogLines.{line_says}
-
--- the answer of one test after another
-abbrev pub then : {A B : Type 0} → Result A Fault → (A → Result B Fault) → Result B Fault
-then (Ok x) next = next x
-then (Err f) next = Err f
 
 -- nothing is left of a text that is cut at its line feeds
 abbrev pub at_end : List (List ℕ) → Bool
@@ -28,7 +23,7 @@ before (Err f) xs = []
 -- a line's fault in the log of that number, or how the lines that follow end
 abbrev pub unless : {G : Type 0} → ℕ → Result (Event G) Fault → Ending → Ending
 unless log (Ok x) e = e
-unless log (Err f) e = Faulty (record { log = log; fault = f })
+unless log (Err f) e = fault_end log f
 
 module _ {G : Type 0} (fields : ℕ) (means : List (List ℕ) → Option G) (stamp : G → Bool) where
   -- line n, the first of what is left of a text that is cut at its line feeds: as a line, then by its fields
@@ -41,8 +36,8 @@ module _ {G : Type 0} (fields : ℕ) (means : List (List ℕ) → Option G) (sta
   records_from n (p ∷ ps) = before (judged n (p ∷ ps)) (records_from (n + 1) ps)
 
   abbrev pub ending_from : ℕ → ℕ → List (List ℕ) → Ending
-  ending_from log n [] = Clean
-  ending_from log n (p ∷ ps) = cond (at_end (p ∷ ps)) Clean (unless log (judged n (p ∷ ps)) (ending_from log (n + 1) ps))
+  ending_from log n [] = clean_end
+  ending_from log n (p ∷ ps) = cond (at_end (p ∷ ps)) clean_end (unless log (judged n (p ∷ ps)) (ending_from log (n + 1) ps))
 
   -- of the whole text, whose lines count from 1
   abbrev pub records_of : List ℕ → List (Event G)

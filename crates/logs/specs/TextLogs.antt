@@ -1,28 +1,29 @@
 -- What a text log in memory means: the record that is read ahead, and what the rest of the text has.
-use Rattle.std.specs.Prelude.{◌≡◌, ℕ, ◌+◌, List, [], ◌∷◌, drop}
+use Rattle.std.specs.Prelude.{◌≡◌, ℕ, ◌+◌, List, [], ◌∷◌, drop, Some, None, Ok, Err, Option, Result}
 use Rattle.kinds.specs.declared.kind.Kind.{Ghosts as Meaning}
 use Rattle.text.specs.Lines.{line_text}
 use Rattle.text.specs.Split.{split}
-use Rattle.logs.specs.declared.ending.Ending.{Ending}
-use Rattle.logs.specs.declared.ending.Ending.TheVariants.{Clean, Faulty}
-use Rattle.logs.specs.declared.source.Next.{Next}
-use Rattle.logs.specs.declared.source.Next.TheVariants.{Waits, Ends}
+use Rattle.logs.specs.declared.ending.LogFault.{LogFault}
+use Rattle.logs.specs.declared.record.Record.{Record}
 use Rattle.logs.specs.declared.text_log.ahead.Ahead.{Ahead}
 use Rattle.logs.specs.declared.text_log.TextLog.{TextLog}
+use Rattle.logs.specs.Endings.{Ending, clean_end}
 use Rattle.logs.specs.Events.{Event, Coming, event}
 use Rattle.logs.specs.Events.Coming.{comes, ends}
 use Rattle.logs.specs.LogLaw.{LogFrom}
 use Rattle.logs.specs.Reading.{records_from, ending_from, records_of, ending_of}
 
 -- the record that comes next, if one does, before the rest
-abbrev pub ahead : {K G : Type 0} → (K → G) → Next K → List (Event G) → List (Event G)
-ahead value (Waits r) rest = event value r ∷ rest
-ahead value (Ends e) rest = []
+abbrev pub ahead : {K G : Type 0} → (K → G) → Result (Option (Record K)) LogFault → List (Event G) → List (Event G)
+ahead value (Ok (Some r)) rest = event value r ∷ rest
+ahead value (Ok None) rest = []
+ahead value (Err f) rest = []
 
 -- the ending that comes next, or that of the rest
-abbrev pub ended_by : {K : Type 0} → Next K → Ending → Ending
-ended_by (Waits r) e = e
-ended_by (Ends e) f = e
+abbrev pub ended_by : {K : Type 0} → Result (Option (Record K)) LogFault → Ending → Ending
+ended_by (Ok (Some r)) e = e
+ended_by (Ok None) e = clean_end
+ended_by (Err f) e = Err f
 
 module _ {K : Type 0} (kind : Meaning K) where
   -- what is read ahead, and what the text has from its cursor on
@@ -48,5 +49,5 @@ module _ {K : Type 0} (kind : Meaning K) where
 -- the line of the fault that a log has come to: none while a record waits, or at a clean ending
 abbrev pub faulty_line : {G : Type 0} → List ℕ → Coming G → List ℕ
 faulty_line text (comes x) = []
-faulty_line text (ends Clean) = []
-faulty_line text (ends (Faulty f)) = line_text (split 10 text) f.fault.place.line
+faulty_line text (ends (Ok u)) = []
+faulty_line text (ends (Err f)) = line_text (split 10 text) f.fault.place.line

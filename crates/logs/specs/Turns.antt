@@ -1,9 +1,8 @@
 -- Whose turn it is in a merge, and what a turn means for the whole: what comes next in that source comes next in the merge.
 use Rattle.std.specs.Prelude.{◌≡◌, Bool, cond, List, drop}
-use Rattle.logs.specs.declared.ending.Ending.{Ending}
 use Rattle.logs.specs.declared.merge.Side.{Side}
 use Rattle.logs.specs.declared.merge.Side.TheVariants.{First, Second}
-use Rattle.logs.specs.Endings.{is_clean}
+use Rattle.logs.specs.Endings.{Ending, is_clean}
 use Rattle.logs.specs.Events.{Event, Coming, first}
 use Rattle.logs.specs.Events.Coming.{comes, ends}
 use Rattle.logs.specs.Merging.{merged_list, merged_ending}

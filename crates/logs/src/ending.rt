@@ -11,11 +11,8 @@ pub struct LogFault {
     pub fault: Fault,
 }
 
-#[derive(Clone, Copy, Debug, PartialEq, Eq)]
-pub enum Ending {
-    Clean,
-    Faulty(LogFault),
-}
+/// `Ok` where a log ends clean.
+pub type Ending = Result<(), LogFault>;
 
 /// An ending as numbers: that of the cause, 0 where it is clean, and the place of the fault.
 #[derive(Clone, Copy, Debug, PartialEq, Eq)]
@@ -26,18 +23,18 @@ pub struct EndingNumbers {
     pub field: usize,
 }
 
-impl Ending {
-    pub fn numbers(self) -> EndingNumbers
-        ensures { result ≡ numbers_of self }
-    {
-        match self {
-            Ending::Clean => EndingNumbers {
+impl From<Ending> for EndingNumbers {
+    ghost from_gives = { λ e r. r ≡ numbers_of e };
+
+    fn from(ending: Ending) -> EndingNumbers {
+        match ending {
+            Ok(()) => EndingNumbers {
                 number: 0,
                 log: 0,
                 line: 0,
                 field: 0,
             },
-            Ending::Faulty(LogFault { log, fault }) => EndingNumbers {
+            Err(LogFault { log, fault }) => EndingNumbers {
                 number: u8::from(fault.cause),
                 log,
                 line: fault.place.line,

@@ -5,30 +5,23 @@ ghost use Rattle.logs.specs.Merging.{merged_list, merged_ending};
 ghost use Rattle.logs.specs.MergeLaws.{MergeLaw};
 ghost use Rattle.logs.specs.Turns.{turn, Turns};
 
-use crate::ending::Ending;
 use crate::source::{Next, Source};
 use kinds::kind::Kind;
 
-#[derive(Clone, Copy)]
+#[derive(Clone, Copy, Debug, PartialEq, Eq)]
 enum Side {
     First,
     Second,
 }
 
-#[derive(Drop)]
+#[derive(Debug, PartialEq, Eq, Drop)]
 pub struct Merge<A, B> {
     first: A,
     second: B,
 }
 
-fn paired<K: Kind, A: Source<K>, B: Source<K>>(first: A, second: B) -> Merge<A, B>
-    ensures sources { (result.first ≡ first) × (result.second ≡ second) }
-    ensures law { MergeLaw K.group.leq (A.Source.waiting K.Kind first) (A.Source.ending K.Kind first) (B.Source.waiting K.Kind second) (B.Source.ending K.Kind second) }
-{
-    Merge { first, second }
-}
-
 impl<A, B> Merge<A, B> {
+    #[tactic(auto, using(crate::proofs::Interleaving::merge_law))]
     pub fn new<K: Kind>(first: A, second: B) -> Merge<A, B>
     where
         A: Source<K>,
@@ -36,7 +29,7 @@ impl<A, B> Merge<A, B> {
         ensures sources { (result.first ≡ first) × (result.second ≡ second) }
         ensures law { MergeLaw K.group.leq (A.Source.waiting K.Kind first) (A.Source.ending K.Kind first) (B.Source.waiting K.Kind second) (B.Source.ending K.Kind second) }
     {
-        paired::<K, A, B>(first, second)
+        Merge { first, second }
     }
 }
 
@@ -45,21 +38,15 @@ fn whose_turn<K: Kind>(a: &Next<K>, b: &Next<K>) -> Side
     ensures { result ≡ turn K.group.leq (meant K.value a.now) (meant K.value b.now) }
 {
     match (a, b) {
-        (Next::Ends(Ending::Clean), _) => Side::Second,
-        (Next::Ends(Ending::Faulty(_)), _) => Side::First,
-        (Next::Waits(_), Next::Ends(Ending::Clean)) => Side::First,
-        (Next::Waits(_), Next::Ends(Ending::Faulty(_))) => Side::Second,
-        (Next::Waits(x), Next::Waits(y)) => {
-            if x.stamp.at_most(&y.stamp) {
-                Side::First
-            } else {
-                Side::Second
-            }
-        }
+        (Err(_), _) => Side::First,
+        (Ok(Some(_)), Ok(None)) => Side::First,
+        (Ok(Some(x)), Ok(Some(y))) if x.stamp.at_most(&y.stamp) => Side::First,
+        _ => Side::Second,
     }
 }
 
 /// Whose turn it is, by a look at each.
+#[tactic(auto, using(crate::proofs::Turning::turn_turns))]
 fn pick<K: Kind, A: Source<K>, B: Source<K>>(a: &A, b: &B) -> Side
     ensures { Turns K.group.leq (A.Source.waiting K.Kind a.now) (A.Source.ending K.Kind a.now) (B.Source.waiting K.Kind b.now) (B.Source.ending K.Kind b.now) result }
 {

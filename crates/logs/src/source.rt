@@ -1,19 +1,15 @@
 // What a log source is: the records that wait in it and its ending, by ghost members, and two calls that answer by them.
 ghost use Rattle.std.specs.Prelude.{◌≡◌, List, drop};
 ghost use Rattle.kinds.specs.declared.kind.Kind.{Ghosts as Meaning};
-ghost use Rattle.logs.specs.declared.ending.Ending.{Ending};
+ghost use Rattle.logs.specs.Endings.{Ending};
 ghost use Rattle.logs.specs.Events.{Event, first, meant};
 
-use crate::ending::Ending;
+use crate::ending::LogFault;
 use crate::record::Record;
 use kinds::kind::Kind;
 
-/// What comes next in a source.
-#[derive(Clone, Copy)]
-pub enum Next<K> {
-    Waits(Record<K>),
-    Ends(Ending),
-}
+/// What comes next in a source: a record that waits, none at a clean ending, or the fault that it ends with.
+pub type Next<K> = Result<Option<Record<K>>, LogFault>;
 
 pub trait Source<K: Kind> {
     // the records that wait, first to last, and how the source ends after them

@@ -1,6 +1,7 @@
 pub mod Faults
 pub mod Split
 pub mod Lines
+pub mod Following
 pub mod Numbers
 pub mod Sizes
 pub mod Writing

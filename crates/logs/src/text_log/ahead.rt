@@ -5,7 +5,7 @@ ghost use Rattle.logs.specs.Reading.{judged, records_from, ending_from};
 ghost use Rattle.logs.specs.Lined.{ReadsRecord};
 ghost use Rattle.logs.specs.TextLogs.{ahead_waiting, ahead_ending};
 
-use crate::ending::{Ending, LogFault};
+use crate::ending::LogFault;
 use crate::line::read_line;
 use crate::record::Record;
 use crate::source::Next;
@@ -29,6 +29,7 @@ pub struct Lined<K> {
 }
 
 /// The record in line `number`, which begins at byte `from`.
+#[tactic(auto, using(crate::proofs::Passing::line_passes))]
 fn read_record<K: Kind>(text: &[u8], from: usize, number: usize) -> Result<Lined<K>, Fault>
     ensures { ReadsRecord K.value text.now from (judged K.fields K.means K.stamp number (split 10 (drop from text.now))) result }
 {
@@ -41,8 +42,10 @@ fn read_record<K: Kind>(text: &[u8], from: usize, number: usize) -> Result<Lined
 }
 
 /// What comes next in the log of that number after so many lines, of which the next begins at byte `cursor`.
+#[tactic(auto, using(crate::proofs::Passing::ends_here))]
 pub fn read_ahead<K: Kind>(text: &[u8], log: u8, lines: usize, cursor: usize) -> Ahead<K>
-    requires { (cursor ≤ length text.now) × (lines ≤ cursor) }
+    requires within { cursor ≤ length text.now }
+    requires counted { lines ≤ cursor }
     ensures waiting { ahead_waiting K.Kind text.now result ≡ records_from K.fields K.means K.stamp (lines + 1) (split 10 (drop cursor text.now)) }
     ensures ending { ahead_ending K.Kind log text.now result ≡ ending_from K.fields K.means K.stamp log (lines + 1) (split 10 (drop cursor text.now)) }
     ensures within { result.cursor ≤ length text.now }
@@ -50,19 +53,19 @@ pub fn read_ahead<K: Kind>(text: &[u8], log: u8, lines: usize, cursor: usize) ->
 {
     if cursor >= text.len() {
         return Ahead {
-            next: Next::Ends(Ending::Clean),
+            next: Ok(None),
             lines,
             cursor,
         };
     }
     match read_record::<K>(text, cursor, lines + 1) {
-        Ok(read) => Ahead {
-            next: Next::Waits(read.record),
+        Ok(Lined { record, end }) => Ahead {
+            next: Ok(Some(record)),
             lines: lines + 1,
-            cursor: read.end,
+            cursor: end,
         },
         Err(fault) => Ahead {
-            next: Next::Ends(Ending::Faulty(LogFault { log, fault })),
+            next: Err(LogFault { log, fault }),
             lines,
             cursor,
         },

@@ -5,24 +5,18 @@ ghost use Rattle.logs.specs.TextLogs.{log_waiting, log_ending, Opens, faulty_lin
 
 use super::TextLog;
 use super::ahead::read_ahead;
-use crate::ending::Ending;
 use crate::source::{Next, Source};
 use kinds::kind::Kind;
 use text::lines;
 
-fn opened<'a, K: Kind>(text: &'a [u8], log: u8) -> TextLog<'a, K>
-    ensures { Opens K.Kind log text.now result }
-{
-    let ahead = read_ahead(text, log, 0, 0);
-    TextLog { text, log, ahead }
-}
-
 impl<'a, K: Kind> TextLog<'a, K> {
     /// The log of that number in a text.
+    #[tactic(auto, using(crate::proofs::Lawful::log_law))]
     pub fn open(text: &'a [u8], log: u8) -> TextLog<'a, K>
         ensures { Opens K.Kind log text.now result }
     {
-        opened(text, log)
+        let ahead = read_ahead(text, log, 0, 0);
+        TextLog { text, log, ahead }
     }
 
     /// The line of the fault that the log has come to; empty while a record waits, and at a clean ending.
@@ -30,8 +24,8 @@ impl<'a, K: Kind> TextLog<'a, K> {
         ensures { result.now ≡ faulty_line self.now.text.now (first (log_waiting K.Kind self.now) (log_ending K.Kind self.now)) }
     {
         match self.look() {
-            Next::Ends(Ending::Faulty(found)) => lines::faulty_line(self.text, &found.fault),
-            _ => &self.text[0..0],
+            Err(found) => lines::faulty_line(self.text, &found.fault),
+            Ok(_) => &self.text[0..0],
         }
     }
 }
@@ -52,7 +46,7 @@ impl<'a, K: Kind> Source<K> for TextLog<'a, K> {
         ensures text { self.new.text.now ≡ self.old.text.now }
     {
         let next = self.look();
-        if let Next::Waits(_) = next {
+        if let Ok(Some(_)) = next {
             self.ahead = read_ahead(self.text, self.log, self.ahead.lines, self.ahead.cursor);
         }
         next
