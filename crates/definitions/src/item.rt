@@ -33,78 +33,45 @@ pub enum Item<K> {
 }
 
 // A slot or a variable, 1 to 8, in field `k` of a line, counted from 0.
-fn read_small(line: &[u8], k: usize, place: Place) -> Result<usize, Fault>
-    ensures value { result ≡ ok_or (small (slice_index_or (split 9 line.now) k [])) (fault_at BadField place.line place.field) }
+fn read_small(text: &[u8], k: usize, place: Place) -> Result<usize, Fault>
+    ensures value { result ≡ ok_or (small (slice_index_or (split 9 text.now) k [])) (fault_at BadField place.line place.field) }
     ensures some { IfOk result (λ n. 0 < n) }
 {
-    let n = number(part(line, TAB, k), 1, 8, place)?;
+    let n = number(part(text, TAB, k), 1, 8, place)?;
     Ok(n as usize)
 }
 
-fn read_opening<K: Kind>(line: &[u8], number: usize) -> Result<Item<K>, Fault>
-    ensures { Says K.value (valued K.fields K.means K.bound number Chronicle (split 9 line.now)) result }
+fn read_opening<K: Kind>(text: &[u8], line: usize) -> Result<Item<K>, Fault>
+    ensures { Says K.value (valued K.fields K.means K.bound line Chronicle (split 9 text.now)) result }
 {
-    let slot = read_small(
-        line,
-        1,
-        Place {
-            line: number,
-            field: 2,
-        },
-    )?;
+    let slot = read_small(text, 1, Place { line, field: 2 })?;
     Ok(Item::Opening(slot))
 }
 
-fn read_variable<K: Kind>(line: &[u8], number: usize) -> Result<Item<K>, Fault>
-    ensures { Says K.value (valued K.fields K.means K.bound number Var (split 9 line.now)) result }
+fn read_variable<K: Kind>(text: &[u8], line: usize) -> Result<Item<K>, Fault>
+    ensures { Says K.value (valued K.fields K.means K.bound line Var (split 9 text.now)) result }
 {
-    let name = Name::read(
-        part(line, TAB, 1),
-        Place {
-            line: number,
-            field: 2,
-        },
-    )?;
+    let name = Name::read(part(text, TAB, 1), Place { line, field: 2 })?;
     Ok(Item::Variable(name))
 }
 
 // The element of a bound, in the fields after the first three: read, and admitted.
-fn read_most<K: Kind>(line: &[u8], place: Place) -> Result<K, Fault>
-    ensures { 3 < length (split 9 line.now) → Reads K.value (admitted K.fields K.means K.bound (K.means (drop 3 (split 9 line.now)))) (fault_at BadField place.line place.field) result }
+fn read_most<K: Kind>(text: &[u8], place: Place) -> Result<K, Fault>
+    ensures { 3 < length (split 9 text.now) → Reads K.value (admitted K.fields K.means K.bound (K.means (drop 3 (split 9 text.now)))) (fault_at BadField place.line place.field) result }
 {
-    let most = K::read(parts_from(line, TAB, 3), place)?;
+    let most = K::read(parts_from(text, TAB, 3), place)?;
     if !most.is_bound() {
         return Err(place.fault(Cause::BadField));
     }
     Ok(most)
 }
 
-fn read_limit<K: Kind>(line: &[u8], number: usize) -> Result<Item<K>, Fault>
-    ensures { 3 < length (split 9 line.now) → Says K.value (valued K.fields K.means K.bound number Bound (split 9 line.now)) result }
+fn read_limit<K: Kind>(text: &[u8], line: usize) -> Result<Item<K>, Fault>
+    ensures { 3 < length (split 9 text.now) → Says K.value (valued K.fields K.means K.bound line Bound (split 9 text.now)) result }
 {
-    let i = read_small(
-        line,
-        1,
-        Place {
-            line: number,
-            field: 2,
-        },
-    )?;
-    let j = read_small(
-        line,
-        2,
-        Place {
-            line: number,
-            field: 3,
-        },
-    )?;
-    let most = read_most(
-        line,
-        Place {
-            line: number,
-            field: 4,
-        },
-    )?;
+    let i = read_small(text, 1, Place { line, field: 2 })?;
+    let j = read_small(text, 2, Place { line, field: 3 })?;
+    let most = read_most(text, Place { line, field: 4 })?;
     Ok(Item::Bounding(Limit {
         from: i - 1,
         to: j - 1,
@@ -112,24 +79,19 @@ fn read_limit<K: Kind>(line: &[u8], number: usize) -> Result<Item<K>, Fault>
     }))
 }
 
-// Line `number` of a definition: its word, the number of its fields, then the fields from the left.
-pub fn read_item<K: Kind>(line: &[u8], number: usize) -> Result<Item<K>, Fault>
-    ensures { Says K.value (item_of K.fields K.means K.bound number (split 9 line.now)) result }
+// Line `line` of a definition: its word, the number of its fields, then the fields from the left.
+pub fn read_item<K: Kind>(text: &[u8], line: usize) -> Result<Item<K>, Fault>
+    ensures { Says K.value (item_of K.fields K.means K.bound line (split 9 text.now)) result }
 {
-    let place = Place {
-        line: number,
-        field: 0,
-    };
-    let Some(word) = word_at(number, part(line, TAB, 0)) else {
-        return Err(place.fault(Cause::BadLine));
-    };
-    if !has_fields::<K>(word, count(line, TAB)) {
+    let place = Place { line, field: 0 };
+    let word = word_at(line, part(text, TAB, 0)).ok_or(place.fault(Cause::BadLine))?;
+    if !has_fields::<K>(word, count(text, TAB)) {
         return Err(place.fault(Cause::BadLine));
     }
     match word {
-        Word::Chronicle => read_opening(line, number),
-        Word::Var => read_variable(line, number),
-        Word::Bound => read_limit(line, number),
+        Word::Chronicle => read_opening(text, line),
+        Word::Var => read_variable(text, line),
+        Word::Bound => read_limit(text, line),
         Word::End => Ok(Item::Closing),
     }
 }

@@ -1,5 +1,5 @@
 // Definitions at the edges of what is read, and the bounds that follow from one.
-use crate::loaded::{Loaded, load};
+use crate::loaded::Loaded;
 use crate::reader::{Definition, read};
 use kinds::bound::Bound;
 use kinds::ticks::Ticks;
@@ -8,10 +8,11 @@ use std::process::Abort;
 use std::test::Fail;
 use text::fault::{Cause, Fault};
 use text::lines::faulty_line;
+use text::name::Name;
 use text::parts::{count, part};
 use text::writing::put;
 
-const NONE_LOADED: Loaded = [false; 8];
+const NONE_LOADED: Loaded = Loaded([false; 8]);
 
 fn in_ticks(text: &[u8], loaded: &Loaded) -> Result<Definition, Fault> {
     let mut table = [Bound::NoBound; 64];
@@ -30,16 +31,8 @@ fn has_fault(
     line: usize,
     field: usize,
 ) -> Result<(), Fail> {
-    match r {
-        Ok(_) => {
-            assert!(rt; false);
-            Ok(())
-        },
-        Err(fault) => {
-            assert_eq!(rt; fault, Fault { cause, line, field });
-            Ok(())
-        },
-    }
+    assert_eq!(rt; r.err(), Some(Fault { cause, line, field }));
+    Ok(())
 }
 
 fn refused(
@@ -93,16 +86,11 @@ fn has_type(
     i: usize,
     letters: &[u8],
 ) -> Result<(), Fail> {
-    match definition.types.get(i) {
-        Some(name) => {
-            assert_eq!(rt; name.as_bytes(), letters);
-            Ok(())
-        },
-        None => {
-            assert!(rt; false);
-            Ok(())
-        },
-    }
+    assert_eq!(rt;
+        definition.types.get(i).as_ref().map(Name::as_bytes),
+        Some(letters)
+    );
+    Ok(())
 }
 
 fn between(table: &[Bound<Ticks>], from: usize, to: usize) -> Option<i64> {
@@ -182,7 +170,7 @@ fn a_bound_is_between_two_variables_above_it(rt: HostRuntime) -> Result<(), Fail
 #[test]
 fn a_loaded_slot_is_refused(rt: HostRuntime) -> Result<(), Fail> {
     let mut loaded = NONE_LOADED;
-    load(&mut loaded, 3);
+    loaded.load(3);
     has_fault(
         &rt,
         in_ticks(b"chronicle\t3\nvar\tA\nend\n", &loaded),
