@@ -2,14 +2,13 @@
 #![tactic(auto)]
 
 use anyhow::anyhow;
-use definitions::loaded::{Loaded, load};
+use definitions::loaded::Loaded;
 use definitions::reader::{Definition, read};
 use files::{Input, read_input};
 use kinds::bound::Bound;
 use kinds::ticks::Ticks;
 use network::table::bound_between;
 use std::io;
-use std::io::Write;
 use text::fault::Fault;
 
 const PATH: &str = "chronicles.txt";
@@ -17,9 +16,7 @@ const PATH: &str = "chronicles.txt";
 fn print_variables(rt: &HostRuntime, definition: &Definition) -> io::Result<()> {
     for i in 0..definition.types.len() {
         if let Some(name) = definition.types.get(i) {
-            print!(rt; "VAR\t{}\t", i + 1)?;
-            rt.stdout().write_all(name.as_bytes())?;
-            println!(rt)?;
+            println!(rt; "VAR\t{}\t{name}", i + 1)?;
         }
     }
     Ok(())
@@ -55,15 +52,12 @@ fn print_definition(
 }
 
 fn print_fault(rt: &HostRuntime, fault: &Fault) -> io::Result<()> {
-    let number = fault.cause.number();
-    let line = fault.line;
-    let field = fault.field;
-    println!(rt; "ERR\t{number}\t{line}\t{field}")
+    println!(rt; "ERR\t{fault}")
 }
 
 // The definitions one after another, each into a slot of its own; false where one is refused.
 fn close_all(rt: &HostRuntime, text: &[u8]) -> io::Result<bool> {
-    let mut loaded: Loaded = [false; 8];
+    let mut loaded = Loaded([false; 8]);
     let mut table = [Bound::NoBound; 64];
     let mut used = 0;
     let mut count = 0usize;
@@ -71,7 +65,7 @@ fn close_all(rt: &HostRuntime, text: &[u8]) -> io::Result<bool> {
         match read::<Ticks>(&text[used..], &loaded, &mut table) {
             Ok(definition) => {
                 print_definition(rt, &definition, &table)?;
-                load(&mut loaded, definition.slot);
+                loaded.load(definition.slot);
                 used += definition.used;
                 count = count.saturating_add(1);
             }

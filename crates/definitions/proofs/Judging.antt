@@ -4,11 +4,12 @@ use Rattle.text.specs.declared.fault.Fault.{Fault}
 use Rattle.text.specs.Lines.{line_of}
 use Rattle.text.specs.Names.{is_name}
 use Rattle.text.specs.Split.{split}
+use Rattle.kinds.specs.Fields.{admitted}
 use Rattle.definitions.specs.declared.words.Word.{Word}
 use Rattle.definitions.specs.declared.words.Word.TheVariants.{Chronicle as Opens, Var, Bound, End}
 use Rattle.definitions.specs.Chronicles.{Chronicle, Said}
 use Rattle.definitions.specs.Drafts.{Admits, Agrees}
-use Rattle.definitions.specs.Lines.{word_at, fields_of, given, small, admitted, valued, worded, item_of}
+use Rattle.definitions.specs.Lines.{word_at, fields_of, given, small, valued, worded, item_of}
 use Rattle.definitions.specs.Reading.{then, Sound, accepted, judged}
 
 pub given_ok : {A B : Type 0} (o : Option A) (f : Fault) (next : A → Result B Fault) (y : B) → given o f next ≡ Ok y → (x : A) × (o ≡ Some x) × (next x ≡ Ok y)
@@ -23,7 +24,7 @@ pub same_ok : {B : Type 0} {x y : B} → ◌≡◌ {A = Result B Fault} (Ok x) (
 same_ok e = cc
 
 module _ {G : Type 0} (fields : ℕ) (means : List (List ℕ) → Option G) (bound : G → Bool) where
-  admitted_bound : (o : Option G) (c : G) → admitted fields means bound o ≡ Some c → bound c ≡ true
+  admitted_bound : (o : Option G) (c : G) → admitted bound o ≡ Some c → bound c ≡ true
   admitted_bound None c e = let z : ◌≡◌ {A = ℕ} 0 1 = cc in absurd (omega arith)
   admitted_bound (Some x) c e = go (bound x) refl e
     where
@@ -37,7 +38,7 @@ module _ {G : Type 0} (fields : ℕ) (means : List (List ℕ) → Option G) (bou
   valued-admits n Bound fs said e =
       let i = given_ok (small (get_or fs 1 [])) _ _ said e in
       let j = given_ok (small (get_or fs 2 [])) _ _ said i.2 in
-      let c = given_ok (admitted fields means bound (means (drop 3 fs))) _ _ said j.2 in
+      let c = given_ok (admitted bound (means (drop 3 fs))) _ _ said j.2 in
       subst (Admits bound) (same_ok c.2) (admitted_bound (means (drop 3 fs)) c.0 c.1)
   valued-admits n End fs said e = subst (Admits bound) (same_ok e) tt
 

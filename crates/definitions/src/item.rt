@@ -1,30 +1,31 @@
 // One line of a definition: what it says, or its fault.
 ghost use Rattle.std.specs.Prelude.{◌≡◌, ◌<◌, [], length, drop, IfOk, slice_index_or};
-ghost use Rattle.kinds.specs.Fields.{Reads};
+ghost use Rattle.kinds.specs.Fields.{Reads, admitted};
 ghost use Rattle.std.specs.Option.{ok_or};
 ghost use Rattle.text.specs.declared.fault.Cause.TheVariants.{BadField};
 ghost use Rattle.text.specs.Faults.{fault_at};
 ghost use Rattle.text.specs.Split.{split};
 ghost use Rattle.definitions.specs.declared.words.Word.TheVariants.{Chronicle, Var, Bound};
-ghost use Rattle.definitions.specs.Lines.{small, admitted, valued, item_of};
+ghost use Rattle.definitions.specs.Lines.{small, valued, item_of};
 ghost use Rattle.definitions.specs.Items.{Says};
 
 use crate::words::{Word, has_fields, word_at};
+use kinds::behind::read_behind;
 use kinds::kind::Kind;
 use text::fault::{Cause, Fault, Place};
 use text::name::Name;
 use text::number::number;
-use text::parts::{TAB, count, part, parts_from};
+use text::parts::{TAB, count, part};
 
 // The stamp of `to` is at most that of `from` plus `most`. Variables count from 0.
-#[derive(Clone, Copy)]
+#[derive(Clone, Copy, Debug, PartialEq, Eq)]
 pub struct Limit<K> {
     pub from: usize,
     pub to: usize,
     pub most: K,
 }
 
-#[derive(Clone, Copy)]
+#[derive(Clone, Copy, Debug, PartialEq, Eq)]
 pub enum Item<K> {
     Opening(usize),
     Variable(Name),
@@ -57,13 +58,9 @@ fn read_variable<K: Kind>(text: &[u8], line: usize) -> Result<Item<K>, Fault>
 
 // The element of a bound, in the fields after the first three: read, and admitted.
 fn read_most<K: Kind>(text: &[u8], place: Place) -> Result<K, Fault>
-    ensures { 3 < length (split 9 text.now) → Reads K.value (admitted K.fields K.means K.bound (K.means (drop 3 (split 9 text.now)))) (fault_at BadField place.line place.field) result }
+    ensures { 3 < length (split 9 text.now) → Reads K.value (admitted K.bound (K.means (drop 3 (split 9 text.now)))) (fault_at BadField place.line place.field) result }
 {
-    let most = K::read(parts_from(text, TAB, 3), place)?;
-    if !most.is_bound() {
-        return Err(place.fault(Cause::BadField));
-    }
-    Ok(most)
+    read_behind(text, 3, place, K::is_bound)
 }
 
 fn read_limit<K: Kind>(text: &[u8], line: usize) -> Result<Item<K>, Fault>

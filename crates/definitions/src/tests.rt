@@ -6,7 +6,7 @@ use kinds::ticks::Ticks;
 use network::table::bound_between;
 use std::process::Abort;
 use std::test::Fail;
-use text::fault::{Cause, Fault};
+use text::fault::{Cause, Fault, Place};
 use text::lines::faulty_line;
 use text::name::Name;
 use text::parts::{count, part};
@@ -31,7 +31,7 @@ fn has_fault(
     line: usize,
     field: usize,
 ) {
-    assert_eq!(rt; r.err(), Some(Fault { cause, line, field }));
+    assert_eq!(rt; r.err(), Some(Place { line, field }.fault(cause)));
 }
 
 fn refused(rt: &impl Abort, text: &[u8], cause: Cause, line: usize, field: usize) {
@@ -113,11 +113,7 @@ fn a_cycle_below_zero_is_refused_at_the_end(rt: HostRuntime) -> Result<(), Fail>
     assert_eq!(rt; limits_with(b"bound\t1\t2\t3\nbound\t2\t1\t-3")?, 2);
     let text = with_line(b"bound\t1\t2\t3\nbound\t2\t1\t-4");
     refused(&rt, &text, Cause::Contradictory, 6, 0);
-    let fault = Fault {
-        cause: Cause::Contradictory,
-        line: 6,
-        field: 0,
-    };
+    let fault = Place { line: 6, field: 0 }.fault(Cause::Contradictory);
     assert_eq!(rt; faulty_line(&text, &fault), b"end".as_slice());
     Ok(())
 }

@@ -2,6 +2,7 @@
 ghost use Rattle.std.specs.Prelude.{◌≡◌, ℕ, ◌==◌};
 ghost use Rattle.definitions.specs.Lines.{word_at, fields_of};
 
+use kinds::behind::has_fields_behind;
 use kinds::kind::Kind;
 
 #[derive(Clone, Copy, Debug, PartialEq, Eq)]
@@ -35,7 +36,7 @@ pub fn has_fields<K: Kind>(word: Word, count: usize) -> bool
 {
     match word {
         Word::Chronicle | Word::Var => count == 2,
-        Word::Bound => count >= 3 && count - 3 == K::field_count(),
+        Word::Bound => has_fields_behind::<K>(3, count),
         Word::End => count == 1,
     }
 }

@@ -11,4 +11,4 @@ is_clean (Faulty f) = false
 
 abbrev pub numbers_of : Ending → EndingNumbers
 numbers_of Clean = record { number = 0; log = 0; line = 0; field = 0 }
-numbers_of (Faulty f) = record { number = number_of f.fault.cause; log = f.log; line = f.fault.line; field = f.fault.field }
+numbers_of (Faulty f) = record { number = number_of f.fault.cause; log = f.log; line = f.fault.place.line; field = f.fault.place.field }

@@ -49,4 +49,4 @@ module _ {K : Type 0} (kind : Meaning K) where
 abbrev pub faulty_line : {G : Type 0} → List ℕ → Coming G → List ℕ
 faulty_line text (comes x) = []
 faulty_line text (ends Clean) = []
-faulty_line text (ends (Faulty f)) = line_text (split 10 text) f.fault.line
+faulty_line text (ends (Faulty f)) = line_text (split 10 text) f.fault.place.line

@@ -38,10 +38,10 @@ impl Ending {
                 field: 0,
             },
             Ending::Faulty(LogFault { log, fault }) => EndingNumbers {
-                number: fault.cause.number(),
+                number: u8::from(fault.cause),
                 log,
-                line: fault.line,
-                field: fault.field,
+                line: fault.place.line,
+                field: fault.place.field,
             },
         }
     }

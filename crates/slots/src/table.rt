@@ -55,9 +55,9 @@ impl Slots {
 
     // Which of the slots are loaded, as a definition's reader asks it.
     pub fn loaded(&self) -> Loaded
-        ensures { result ≡ loaded_in self.now }
+        ensures { result.0 ≡ loaded_in self.now }
     {
-        [
+        Loaded([
             self.is_loaded(1),
             self.is_loaded(2),
             self.is_loaded(3),
@@ -66,7 +66,7 @@ impl Slots {
             self.is_loaded(6),
             self.is_loaded(7),
             self.is_loaded(8),
-        ]
+        ])
     }
 
     // Loads a slot with a chronicle's variables; outside 1 to 8 there is none to load.

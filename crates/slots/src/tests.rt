@@ -6,7 +6,7 @@ use kinds::ticks::Ticks;
 use network::table::bound_between;
 use std::process::Abort;
 use std::test::Fail;
-use text::fault::{Cause, Fault};
+use text::fault::{Cause, Fault, Place};
 use text::name::Name;
 
 const LEAK: &[u8] =
@@ -29,7 +29,7 @@ fn has_fault(
             Ok(())
         },
         Err(fault) => {
-            assert_eq!(rt; fault, Fault { cause, line, field });
+            assert_eq!(rt; fault, Place { line, field }.fault(cause));
             Ok(())
         },
     }

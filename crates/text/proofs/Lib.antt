@@ -3,3 +3,5 @@ pub mod FirstLines
 pub mod Wholes
 pub mod Buffers
 pub mod Spellings
+pub mod Chains
+pub mod Results

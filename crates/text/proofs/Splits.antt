@@ -1,7 +1,7 @@
 -- The laws of `split`: its first part and its rest, and that joining undoes it.
 use Rattle.std.proofs.Common.{◌≡◌, ℕ, suc, ◌+◌, ◌-◌, ◌<◌, ◌≤◌, true, false, not, eqb, List, [], ◌∷◌, ◌++◌, length, get_or, take, drop, sym, refl, ap, ◌∙◌, inl, inr, add-one, arith}
-use Rattle.std.proofs.lemmas.List.{drop_more, drop_all, take_all, length-drop, get_or-drop, take_rest}
-use Rattle.std.proofs.lemmas.Bool.{cases_Bool, eqb-true, and_parts, not-true, ne_eqb, eq-eqb, cases_lt}
+use Rattle.std.proofs.lemmas.List.{take_all, length-drop, get_or-drop, take_rest}
+use Rattle.std.proofs.lemmas.Bool.{cases_Bool, eqb-true, and_parts, not-true, eq-eqb, cases_lt}
 use Rattle.std.specs.List.{AllByRecursion as All}
 use Rattle.text.specs.Split.{split, before, first_place, without, rejoined}
 
@@ -98,37 +98,6 @@ split_clear b (x ∷ xs) =
     put [] f c = (rw f, tt)
     put (p ∷ ps) f c = (rw f c.0, c.1)
 
--- a step of a search for b: it stands at i, or past it
-pub place_here : (b : ℕ) (xs : List ℕ) (i : ℕ) → i < length xs → get_or xs i 0 ≡ b → first_place b (drop i xs) ≡ 0
-place_here b xs i h e = rw (drop_more xs i 0 h, eq-eqb (get_or xs i 0) b e)
-
-pub place-past :
-    (b : ℕ) (xs : List ℕ) (i : ℕ) → i < length xs → (get_or xs i 0 ≡ b → ⊥) →
-    first_place b (drop i xs) ≡ suc (first_place b (drop (i + 1) xs))
-place-past b xs i h n = rw (drop_more xs i 0 h, ne_eqb (get_or xs i 0) b n)
-
-pub place_none : (b : ℕ) (xs : List ℕ) (i : ℕ) → length xs ≤ i → first_place b (drop i xs) ≡ 0
-place_none b xs i h = rw (drop_all i xs h)
-
--- a step of a count of parts
-pub parts-here :
-    (b : ℕ) (xs : List ℕ) (i : ℕ) → i < length xs → get_or xs i 0 ≡ b →
-    length (split b (drop i xs)) ≡ suc (length (split b (drop (i + 1) xs)))
-parts-here b xs i h e = rw (drop_more xs i 0 h, eq-eqb (get_or xs i 0) b e)
-
-pub parts-past :
-    (b : ℕ) (xs : List ℕ) (i : ℕ) → i < length xs → (get_or xs i 0 ≡ b → ⊥) →
-    length (split b (drop i xs)) ≡ length (split b (drop (i + 1) xs))
-parts-past b xs i h n =
-    rw (drop_more xs i 0 h, ne_eqb (get_or xs i 0) b n) (same (get_or xs i 0) (split b (drop (i + 1) xs)) (split_some_part b (drop (i + 1) xs)))
-  where
-    same : (x : ℕ) (ps : List (List ℕ)) → 0 < length ps → length (before x ps) ≡ length ps
-    same x [] k = absurd (omega arith)
-    same x (p ∷ ps) k = refl
-
-pub parts_none : (b : ℕ) (xs : List ℕ) (i : ℕ) → length xs ≤ i → length (split b (drop i xs)) ≡ 1
-parts_none b xs i h = rw (drop_all i xs h)
-
 -- going from part to part: `rest` is what is left of xs, of which `left` parts are still to be passed to come to part k
 module _ (b : ℕ) (xs rest : List ℕ) (left k : ℕ) (same : drop left (split b rest) ≡ drop k (split b xs)) where
   pub no_part_left : first_place b rest ≡ length rest → 0 < left → length (split b xs) ≤ k
@@ -146,9 +115,9 @@ module _ (b : ℕ) (xs rest : List ℕ) (left k : ℕ) (same : drop left (split 
 
   -- the same, as `&rest[end + 1..]` has the rest
   pub next-part-at :
-      (end : ℕ) → end ≡ first_place b rest → end < length rest → 0 < left →
-      drop (left - 1) (split b (take (length rest - (end + 1)) (drop (end + 1) rest))) ≡ drop k (split b xs)
-  next-part-at end e l h = let p : first_place b rest < length rest = omega arith in rw (take_rest rest (end + 1), e) (next-part p h)
+      (end m : ℕ) → end ≡ first_place b rest → end < length rest → 0 < left → m ≡ left - 1 →
+      drop m (split b (take (length rest - (end + 1)) (drop (end + 1) rest))) ≡ drop k (split b xs)
+  next-part-at end m e l h n = let p : first_place b rest < length rest = omega arith in rw (take_rest rest (end + 1), e, n) (next-part p h)
 
   pub part_found : left ≡ 0 → split b rest ≡ drop k (split b xs)
   part_found e = sym (ap (λ n. drop n (split b rest)) e) ∙ same

@@ -1,12 +1,17 @@
--- Numbers as they are read and as they are written: step by step, within 64 bits, and there and back.
-use Rattle.std.proofs.Common.{◌≡◌, ℕ, zero, suc, ◌+◌, ◌-◌, ◌*◌, ◌^◌, ◌<◌, ◌≤◌, true, false, ◌&&◌, eqb, leb, List, [], ◌∷◌, length, get_or, drop, ℤ, pos, negsuc, Some, None, decimal, Option, sym, refl, ap, ◌∙◌, inl, inr, arith, w64, SFits, to_z, of_z, rules}
+-- Numbers as they are read and as they are written: by the library's reader, within 64 bits, and there and back.
+use Rattle.std.proofs.Common.{◌≡◌, ℕ, zero, suc, ◌-◌, ◌^◌, ◌<◌, ◌≤◌, Bool, true, false, cond, ◌&&◌, eqb, leb, List, [], ◌∷◌, length, get_or, ℤ, pos, negsuc, Some, None, Ok, Err, decimal, Option, Result, sym, refl, ap, ◌∙◌, inl, inr, arith, w64, SFits, to_z, of_z, rules}
 use lib.Signed.{le_z, mag}
 use Rattle.std.proofs.lemmas.Fmt.{decimal-digits_value, digits_value-decimal, digits_decimal, decimal_nonempty, first_decimal, decimal_digit}
-use Rattle.std.proofs.lemmas.List.{drop_more, drop_all, at_drop_more}
-use Rattle.std.proofs.lemmas.Str.Parse.{IsNumeralModel, numerals_by_fold}
+use Rattle.std.proofs.lemmas.Str.{IsUtf8-from_ascii}
+use Rattle.std.proofs.lemmas.Str.Ascii.{IsAscii-from_reads}
+use Rattle.std.proofs.lemmas.Str.Parse.{IsNumeralModel, numerals_by_fold, parse_digits}
+use Rattle.std.specs.Str.{IsUtf8}
+use Rattle.std.specs.Str.Parse.{ParsesUnsigned}
+use Rattle.std.specs.Result.{OkIff, result_ok}
 use Rattle.std.proofs.lemmas.Int.{to_z-of_z}
-use Rattle.std.proofs.lemmas.Bool.{and_parts, and_left, and_right, leb-true, le-leb, lt-leb, cases_Bool, cases_lt, eqb-true, ne_eqb, eq-eqb}
+use Rattle.std.proofs.lemmas.Bool.{and_parts, and_left, and_right, leb-true, le-leb, lt-leb, cases_Bool, cases_lt, eqb-true, ne_eqb}
 use Rattle.std.proofs.lemmas.Bool.Decides.{nat_tests}
+use Rattle.std.specs.Bool.{then_some}
 use Rattle.std.specs.Option.{option_map}
 use Rattle.std.specs.Fmt.{signed_decimal}
 use Rattle.text.specs.Numbers.{all_digits, read_on, is_numeral, natural, negative, whole, within, WrittenOneWay}
@@ -21,41 +26,15 @@ digit_within (c ∷ cs) zero h l =
     (leb-true 48 c q.0, leb-true c 57 q.1)
 digit_within (c ∷ cs) (suc i) h l = digit_within cs i (and_parts (leb 48 c && leb c 57) (all_digits cs) h).1 (omega arith)
 
--- a test of the byte at i, and what is left to test
-pub digits_more :
-    (ds : List ℕ) (i : ℕ) → i < length ds → 48 ≤ get_or ds i 0 → get_or ds i 0 ≤ 57 →
-    all_digits (drop i ds) ≡ all_digits (drop (i + 1) ds)
-digits_more ds i l lo hi = rw (drop_more ds i 0 l, le-leb 48 (get_or ds i 0) lo, le-leb (get_or ds i 0) 57 hi)
-
-pub digits_low : (ds : List ℕ) (i : ℕ) → i < length ds → get_or ds i 0 < 48 → all_digits (drop i ds) ≡ false
-digits_low ds i l h = rw (drop_more ds i 0 l, lt-leb 48 (get_or ds i 0) h)
-
-pub digits_high : (ds : List ℕ) (i : ℕ) → i < length ds → 57 < get_or ds i 0 → all_digits (drop i ds) ≡ false
-digits_high ds i l h =
-    let lo : 48 ≤ get_or ds i 0 = omega arith in
-    rw (drop_more ds i 0 l, le-leb 48 (get_or ds i 0) lo, lt-leb (get_or ds i 0) 57 h)
-
-pub digits_none : (ds : List ℕ) (i : ℕ) → length ds ≤ i → all_digits (drop i ds) ≡ true
-digits_none ds i h = rw (drop_all i ds h)
-
--- a number only grows with more digits
-pub read_on_grows : (n : ℕ) (ds : List ℕ) → n ≤ read_on n ds
-read_on_grows n [] = omega arith
-read_on_grows n (c ∷ cs) = omega (arith, read_on_grows (10 * n + (c - 48)) cs)
-
-pub read_more : (n : ℕ) (ds : List ℕ) (i : ℕ) → i < length ds → read_on n (drop i ds) ≡ read_on (n * 10 + (get_or ds i 0 - 48)) (drop (i + 1) ds)
-read_more n ds i l =
-    let e : 10 * n + (get_or ds i 0 - 48) ≡ n * 10 + (get_or ds i 0 - 48) = omega arith in
-    at_drop_more (read_on n) ds i 0 l ∙ ap (λ m. read_on m (drop (i + 1) ds)) e
-
-pub read_none : (n : ℕ) (ds : List ℕ) (i : ℕ) → length ds ≤ i → read_on n (drop i ds) ≡ n
-read_none n ds i h = rw (drop_all i ds h)
-
-pub sized-within : (n : ℕ) → n ≤ 2 ^ 63 → sized n ≡ Some n
-sized-within n h = rw (le-leb n (2 ^ 63) h)
-
 pub sized_past : (n : ℕ) → 2 ^ 63 < n → sized n ≡ None
 sized_past n h = rw (lt-leb n (2 ^ 63) h)
+
+pub sized_kept : (n : ℕ) → then_some (leb n (2 ^ 63)) n ≡ sized n
+sized_kept n = by_test (leb n (2 ^ 63))
+  where
+    by_test : (b : Bool) → then_some b n ≡ cond b (Some n) None
+    by_test true = refl
+    by_test false = refl
 
 -- the code's limit is the range from -2 ^ 63 to 2 ^ 63
 pub capped-negative : (o : Option ℕ) → negative (capped o) ≡ within (negsuc (2 ^ 63 - 1)) (pos (2 ^ 63)) (negative o)
@@ -97,9 +76,6 @@ pub within-passed :
     r ≡ within (to_z w64 (of_z w64 low)) (to_z w64 (of_z w64 high)) o → r ≡ within low high o
 within-passed low high o r a b e = rw (to_z-of_z w64 low a, to_z-of_z w64 high b) at e
 
-pub whole_minus : (bs : List ℕ) → get_or bs 0 0 ≡ 45 → whole bs ≡ negative (natural (drop 1 bs))
-whole_minus bs e = rw (eq-eqb (get_or bs 0 0) 45 e)
-
 -- the shelf's laws of decimals, for the words here
 own : IsNumeralModel (λ ds. all_digits ds ≡ true) (read_on 0)
 own = numerals_by_fold (λ ds. all_digits ds ≡ true) (search rules) read_on (search rules)
@@ -107,8 +83,34 @@ own = numerals_by_fold (λ ds. all_digits ds ≡ true) (search rules) read_on (s
 numeral_made : (ds : List ℕ) → all_digits ds ≡ true → 0 < length ds → (get_or ds 0 0 ≡ 48 → length ds ≡ 1) → is_numeral ds ≡ true
 numeral_made ds a l z = grind (arith, nat_tests)
 
-numeral_parts : (ds : List ℕ) → is_numeral ds ≡ true → (all_digits ds ≡ true) × (0 < length ds) × (get_or ds 0 0 ≡ 48 → length ds ≡ 1)
+pub numeral_parts : (ds : List ℕ) → is_numeral ds ≡ true → (all_digits ds ≡ true) × (0 < length ds) × (get_or ds 0 0 ≡ 48 → length ds ≡ 1)
 numeral_parts ds h = (grind (arith, nat_tests), grind (arith, nat_tests), grind (arith, nat_tests))
+
+pub numeral_natural : (ds : List ℕ) → is_numeral ds ≡ true → natural ds ≡ Some (read_on 0 ds)
+numeral_natural ds h = rw h
+
+-- so a numeral is text, of which the library's reader gives the value, or nothing where 64 bits are too few
+pub digits_utf8 : (ds : List ℕ) → all_digits ds ≡ true → IsUtf8 ds
+digits_utf8 ds h = IsUtf8-from_ascii ds (IsAscii-from_reads ds (length ds) (omega arith) (λ k l. omega (arith, (digit_within ds k h l).1)))
+
+module _ {E : Type 0} (ds : List ℕ) (p : all_digits ds ≡ true) where
+  pub parsed_some : (r : Result ℕ E) → ParsesUnsigned 64 10 ds r → (n : ℕ) → Some n ≡ result_ok r → n ≡ read_on 0 ds
+  parsed_some r h n e = go r (parse_digits own 64 ds r h p) e
+    where
+      go : (r : Result ℕ E) → OkIff r ((0 < length ds) × (read_on 0 ds < 2 ^ 64)) (read_on 0 ds) → Some n ≡ result_ok r → n ≡ read_on 0 ds
+      go (Ok m) k e = let f : n ≡ m = cc in f ∙ k.1
+      go (Err x) k e = let z : ◌≡◌ {A = ℕ} 0 1 = cc in absurd (omega arith)
+
+  pub parsed_none : (r : Result ℕ E) → ParsesUnsigned 64 10 ds r → 0 < length ds → result_ok r ≡ None → 2 ^ 64 ≤ read_on 0 ds
+  parsed_none r h some e = go r (parse_digits own 64 ds r h p) e
+    where
+      go : (r : Result ℕ E) → OkIff r ((0 < length ds) × (read_on 0 ds < 2 ^ 64)) (read_on 0 ds) → result_ok r ≡ None → 2 ^ 64 ≤ read_on 0 ds
+      go (Ok m) k e = let z : ◌≡◌ {A = ℕ} 0 1 = cc in absurd (omega arith)
+      go (Err x) k e =
+          elim (cases_lt (read_on 0 ds) (2 ^ 64)) [
+            | inl l ↦ absurd (k (some, l))
+            | inr g ↦ g
+          ]
 
 -- a number without a sign is its decimal writing
 natural_decimal : (n : ℕ) → n < 2 ^ 64 → natural (decimal n) ≡ Some n

@@ -1,5 +1,5 @@
--- The faults of a text: their numbers, and a fault at its place.
-use Rattle.std.specs.Prelude.{ℕ}
+-- The faults of a text: their numbers, a fault at its place, and a fault as it is printed.
+use Rattle.std.specs.Prelude.{ℕ, List, ◌∷◌, ◌++◌, decimal}
 use Rattle.text.specs.declared.fault.Cause.{Cause}
 use Rattle.text.specs.declared.fault.Cause.TheVariants.{BadField, BadLine, Unfinished, TooMany, BadPair, SlotLoaded, Contradictory, ShortMemory}
 use Rattle.text.specs.declared.fault.Fault.{Fault}
@@ -23,4 +23,8 @@ number_of Contradictory = 17
 number_of ShortMemory = 28
 
 abbrev pub fault_at : Cause → ℕ → ℕ → Fault
-fault_at c l f = record { cause = c; line = l; field = f }
+fault_at c l f = record { cause = c; place = record { line = l; field = f } }
+
+-- the number of the cause, the line and the field in decimal, with a tab, byte 9, between each and the next
+abbrev pub fault_text : Fault → List ℕ
+fault_text f = decimal (number_of f.cause) ++ (9 ∷ (decimal f.place.line ++ (9 ∷ decimal f.place.field)))

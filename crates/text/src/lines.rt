@@ -25,14 +25,14 @@ fn first_line(text: &[u8], number: usize) -> Result<&[u8], Fault>
         field: 0,
     };
     let end = parts::find(text, LINE_FEED);
-    if text.len() == 0 {
+    if text.is_empty() {
         return Err(place.fault(Cause::Unfinished));
     }
     if end >= text.len() {
         return Err(place.fault(Cause::BadLine));
     }
     if is_short(end) {
-        Ok(&text[0..end])
+        Ok(&text[..end])
     } else {
         Err(place.fault(Cause::BadLine))
     }
@@ -42,10 +42,7 @@ fn first_line(text: &[u8], number: usize) -> Result<&[u8], Fault>
 fn text_from(text: &[u8], from: usize) -> &[u8]
     ensures { result.now ≡ drop from text.now }
 {
-    if from > text.len() {
-        return &text[0..0];
-    }
-    &text[from..]
+    text.get(from..).unwrap_or(&[])
 }
 
 /// The line that begins at byte `from`, as line `number`.
@@ -57,10 +54,10 @@ pub fn line_at(text: &[u8], from: usize, number: usize) -> Result<&[u8], Fault>
 
 /// The line that a fault stands on, as part of the caller's text.
 pub fn faulty_line<'a>(text: &'a [u8], fault: &Fault) -> &'a [u8]
-    ensures { result.now ≡ line_text (split 10 text.now) fault.now.line }
+    ensures { result.now ≡ line_text (split 10 text.now) fault.now.place.line }
 {
-    if fault.line == 0 {
-        return &text[0..0];
+    if fault.place.line == 0 {
+        return &[];
     }
-    parts::part(text, LINE_FEED, fault.line - 1)
+    parts::part(text, LINE_FEED, fault.place.line - 1)
 }

@@ -4,7 +4,7 @@ ghost use Rattle.text.specs.Names.{is_name};
 
 mod methods;
 
-#[derive(Clone, Copy)]
+#[derive(Clone, Copy, Debug, PartialEq, Eq)]
 pub struct Name {
     bytes: [u8; 8],
     len: usize,

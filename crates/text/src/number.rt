@@ -1,105 +1,71 @@
 // Whole numbers in decimal, read exactly however long the field is.
-ghost use Rattle.std.specs.Prelude.{◌≡◌, ◌-◌, ◌^◌, true, pos, negsuc};
+ghost use Rattle.std.specs.Prelude.{◌≡◌, ◌-◌, ◌^◌, pos, negsuc};
 ghost use Rattle.std.specs.Option.{option_map, ok_or};
 ghost use Rattle.text.specs.declared.fault.Cause.TheVariants.{BadField};
 ghost use Rattle.text.specs.Faults.{fault_at};
-ghost use Rattle.text.specs.Numbers.{all_digits, read_on, natural, negative, whole, within, WrittenOneWay};
-ghost use Rattle.text.specs.Sizes.{sized, capped};
+ghost use Rattle.text.specs.Numbers.{all_digits, is_numeral, natural, negative, whole, within, WrittenOneWay};
+ghost use Rattle.text.specs.Sizes.{capped};
 
 use crate::fault::{Cause, Fault, Place};
+use std::str;
 
 /// The largest size that an `i64` can have, that of its minimum: past it, reading gives up.
-const LARGEST: u128 = 9_223_372_036_854_775_808;
+const LARGEST: u64 = 9_223_372_036_854_775_808;
 
 fn all_digits(bytes: &[u8]) -> bool
     ensures { result ≡ all_digits bytes.now }
 {
-    for x in bytes {
-        if *x < b'0' {
-            return false;
-        }
-        if *x > b'9' {
-            return false;
-        }
-    }
-    true
+    bytes.iter().all(u8::is_ascii_digit)
 }
 
-/// The value of a row of digits, up to the largest size.
-fn value(digits: &[u8]) -> Option<u64>
-    requires { all_digits digits.now ≡ true }
-    ensures { result ≡ sized (read_on 0 digits.now) }
+/// One digit, or more of which the first is not 0.
+fn is_numeral(field: &[u8]) -> bool
+    ensures { result ≡ is_numeral field.now }
 {
-    let mut n: u128 = 0;
-    for x in digits {
-        n = n * 10 + (*x - b'0') as u128;
-        if n > LARGEST {
-            return None;
-        }
-    }
-    Some(n as u64)
+    !field.is_empty() && all_digits(field) && (field[0] != b'0' || field.len() == 1)
 }
 
 /// A number without a sign.
 fn unsigned(field: &[u8]) -> Option<u64>
     ensures { result ≡ capped (natural field.now) }
 {
-    if field.len() == 0 {
+    if !is_numeral(field) {
         return None;
     }
-    if field[0] == b'0' && field.len() > 1 {
-        return None;
-    }
-    if all_digits(field) {
-        value(field)
-    } else {
-        None
-    }
+    let digits = str::from_utf8(field).ok()?;
+    let size = digits.parse::<u64>().ok()?;
+    (size <= LARGEST).then_some(size)
 }
 
 fn as_positive(size: Option<u64>) -> Option<i128>
     ensures { result ≡ option_map pos size }
 {
-    match size {
-        Some(n) => Some(n as i128),
-        None => None,
-    }
+    size.map(i128::from)
 }
 
 /// The number of that size below zero; there is none of size 0.
 fn as_negative(size: Option<u64>) -> Option<i128>
     ensures { result ≡ negative size }
 {
-    match size {
-        Some(0) => None,
-        Some(n) => Some(-(n as i128)),
-        None => None,
-    }
+    size.filter(|n| *n > 0).map(|n| -i128::from(n))
 }
 
 /// A number with or without a minus.
 fn any_sign(field: &[u8]) -> Option<i128>
     ensures { result ≡ within (negsuc (2 ^ 63 - 1)) (pos (2 ^ 63)) (whole field.now) }
 {
-    if field.len() > 0 && field[0] == b'-' {
-        return as_negative(unsigned(&field[1..]));
+    match field {
+        [b'-', size @ ..] => as_negative(unsigned(size)),
+        _ => as_positive(unsigned(field)),
     }
-    as_positive(unsigned(field))
 }
 
 fn bounded(number: Option<i128>, low: i64, high: i64) -> Option<i64>
     ensures { result ≡ within low high number }
 {
-    match number {
-        Some(z) => {
-            if low as i128 <= z && z <= high as i128 {
-                Some(z as i64)
-            } else {
-                None
-            }
-        }
-        None => None,
-    }
+    i64::try_from(number?)
+        .ok()
+        .filter(|z| (low..=high).contains(z))
 }
 
 /// The number that a field means, if it is one from `low` to `high`.

@@ -2,34 +2,23 @@
 ghost use Rattle.std.specs.Prelude.{◌≡◌, ◌<◌, ◌≤◌, [], length, drop, slice_index_or};
 ghost use Rattle.text.specs.Split.{split, first_place};
 
-pub const TAB: u8 = 9;
+pub const TAB: u8 = b'\t';
 
-pub const LINE_FEED: u8 = 10;
+pub const LINE_FEED: u8 = b'\n';
 
 /// Where `b` stands first, or the length where it does not stand.
 pub fn find(bytes: &[u8], b: u8) -> usize
     ensures place { result ≡ first_place b bytes.now }
     ensures within { result ≤ length bytes.now }
 {
-    for i in 0..bytes.len() {
-        if bytes[i] == b {
-            return i;
-        }
-    }
-    bytes.len()
+    bytes.iter().position(|x| *x == b).unwrap_or(bytes.len())
 }
 
 /// How many parts there are: one more than bytes `b`.
 pub fn count(bytes: &[u8], b: u8) -> usize
     ensures { result ≡ length (split b bytes.now) }
 {
-    let mut parts = 1;
-    for x in bytes {
-        if *x == b {
-            parts += 1;
-        }
-    }
-    parts
+    1 + bytes.iter().filter(|x| **x == b).count()
 }
 
 /// The text from part `k` on, counted from 0; nothing where there are no more than `k` parts.
@@ -39,14 +28,12 @@ pub fn parts_from(bytes: &[u8], b: u8, k: usize) -> &[u8]
     ensures past { length (split b bytes.now) ≤ k → result.now ≡ [] }
 {
     let mut rest = bytes;
-    let mut left = k;
-    while left > 0 {
+    for _ in 0..k {
         let end = find(rest, b);
-        if end >= rest.len() {
-            return &bytes[0..0];
+        if end == rest.len() {
+            return &[];
         }
         rest = &rest[end + 1..];
-        left -= 1;
     }
     rest
 }
@@ -55,8 +42,7 @@ pub fn parts_from(bytes: &[u8], b: u8, k: usize) -> &[u8]
 fn first_part(bytes: &[u8], b: u8) -> &[u8]
     ensures { result.now ≡ slice_index_or (split b bytes.now) 0 [] }
 {
-    let end = find(bytes, b);
-    &bytes[0..end]
+    &bytes[..find(bytes, b)]
 }
 
 /// Part `k`, counted from 0; nothing where there are no more than `k` parts.

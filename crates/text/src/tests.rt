@@ -11,7 +11,7 @@ use std::test::Fail;
 const PLACE: Place = Place { line: 3, field: 2 };
 
 fn fault_at(cause: Cause, line: usize, field: usize) -> Fault {
-    Fault { cause, line, field }
+    Place { line, field }.fault(cause)
 }
 
 fn whole(field: &[u8]) -> Result<i64, Fault> {
@@ -22,17 +22,9 @@ fn no_number(rt: &impl Abort, field: &[u8]) {
     assert_eq!(rt; whole(field), Err(fault_at(Cause::BadField, 3, 2)));
 }
 
-fn no_line(rt: &impl Abort, text: &[u8], from: usize, expected: Fault) -> Result<(), Fail> {
-    match line_at(text, from, expected.line) {
-        Ok(_) => {
-            assert!(rt; false);
-            Ok(())
-        },
-        Err(fault) => {
-            assert_eq!(rt; fault, expected);
-            Ok(())
-        },
-    }
+fn no_line(rt: &impl Abort, text: &[u8], from: usize, expected: Fault) {
+    let read = line_at(text, from, expected.place.line);
+    assert_eq!(rt; read.err(), Some(expected));
 }
 
 fn no_name(rt: &impl Abort, bytes: &[u8]) {
@@ -44,7 +36,7 @@ fn no_name(rt: &impl Abort, bytes: &[u8]) {
 fn a_line_has_at_most_80_bytes(rt: HostRuntime) -> Result<(), Fail> {
     let mut text = [b'x'; 82];
     text[81] = b'\n';
-    no_line(&rt, &text, 0, fault_at(Cause::BadLine, 7, 0))?;
+    no_line(&rt, &text, 0, fault_at(Cause::BadLine, 7, 0));
     let line = line_at(&text, 1, 7)?;
     assert_eq!(rt; line.len(), 80);
     Ok(())
@@ -53,9 +45,9 @@ fn a_line_has_at_most_80_bytes(rt: HostRuntime) -> Result<(), Fail> {
 #[test]
 fn a_text_may_stop_or_break_off(rt: HostRuntime) -> Result<(), Fail> {
     assert_eq!(rt; line_at(b"A\r\nB", 0, 1)?, b"A\r".as_slice());
-    no_line(&rt, b"A\nB", 2, fault_at(Cause::BadLine, 2, 0))?;
-    no_line(&rt, b"A\n", 2, fault_at(Cause::Unfinished, 2, 0))?;
-    no_line(&rt, b"A\n", 9, fault_at(Cause::Unfinished, 2, 0))?;
+    no_line(&rt, b"A\nB", 2, fault_at(Cause::BadLine, 2, 0));
+    no_line(&rt, b"A\n", 2, fault_at(Cause::Unfinished, 2, 0));
+    no_line(&rt, b"A\n", 9, fault_at(Cause::Unfinished, 2, 0));
     assert_eq!(rt;
         faulty_line(b"A\nB", &fault_at(Cause::BadLine, 2, 0)),
         b"B".as_slice()

@@ -1,5 +1,5 @@
 // Names are tested, made, read from a field and compared.
-ghost use Rattle.std.specs.Prelude.{◌≡◌, ◌-◌, ◌≤◌, false, ◌++◌, length, replicate, Decides, MatchResult};
+ghost use Rattle.std.specs.Prelude.{◌≡◌, ◌-◌, ◌≤◌, false, ◌++◌, length, replicate, Some, Decides, MatchResult};
 ghost use Rattle.text.specs.declared.fault.Cause.TheVariants.{BadField};
 ghost use Rattle.text.specs.Faults.{fault_at};
 ghost use Rattle.text.specs.Names.{name_byte, name_bytes, is_name};
@@ -7,16 +7,18 @@ ghost use Rattle.text.specs.Spelled.{spelled, Spells, refusal_number};
 
 use super::{Name, NotAName};
 use crate::fault::{Cause, Fault, Place};
+use std::{fmt, str};
 
 fn is_name_byte(b: u8) -> bool
     ensures { result ≡ name_byte b }
 {
-    (b'A' <= b && b <= b'Z') || (b'0' <= b && b <= b'9')
+    b.is_ascii_uppercase() || b.is_ascii_digit()
 }
 
 fn all_name_bytes(bytes: &[u8]) -> bool
     ensures { result ≡ name_bytes bytes.now }
 {
+    // A rule of the project: a loop over a name's bytes, each tested before the name is made.
     for b in bytes {
         if !is_name_byte(*b) {
             return false;
@@ -28,10 +30,7 @@ fn all_name_bytes(bytes: &[u8]) -> bool
 fn is_name(bytes: &[u8]) -> bool
     ensures { result ≡ is_name bytes.now }
 {
-    if bytes.len() < 1 || bytes.len() > 8 {
-        return false;
-    }
-    all_name_bytes(bytes)
+    (1..=8).contains(&bytes.len()) && all_name_bytes(bytes)
 }
 
 /// The bytes, and zeros after them.
@@ -40,22 +39,24 @@ fn padded(bytes: &[u8]) -> [u8; 8]
     ensures { result ≡ bytes.now ++ replicate (8 - length bytes.now) 0 }
 {
     let mut all = [0; 8];
-    let len = bytes.len();
-    all[0..len].copy_from_slice(bytes);
+    all[..bytes.len()].copy_from_slice(bytes);
     all
 }
 
-fn equal(a: &[u8], b: &[u8]) -> bool
-    ensures { Decides result (a.now ≡ b.now) }
-{
-    a == b
+impl From<NotAName> for u8 {
+    ghost from_gives = { λ refusal number. number ≡ refusal_number refusal };
+
+    fn from(_refusal: NotAName) -> u8 {
+        21
+    }
 }
 
-impl NotAName {
-    pub fn number(self) -> u8
-        ensures { result ≡ refusal_number self }
-    {
-        21
+/// The letters of the name.
+impl fmt::Display for Name {
+    ghost output = { λ name. Some (spelled name) };
+
+    fn fmt<W: fmt::Write>(&self, f: &mut fmt::Formatter<W>) -> fmt::Result {
+        f.write_str(str::from_utf8(self.as_bytes()).unwrap())
     }
 }
 
@@ -76,21 +77,18 @@ impl Name {
     pub fn read(field: &[u8], place: Place) -> Result<Name, Fault>
         ensures { MatchResult result (Spells field.now) (λ f. (is_name field.now ≡ false) × (f ≡ fault_at BadField place.line place.field)) }
     {
-        match Name::new(field) {
-            Ok(name) => Ok(name),
-            Err(_) => Err(place.fault(Cause::BadField)),
-        }
+        Name::new(field).map_err(|_| place.fault(Cause::BadField))
     }
 
     pub fn as_bytes(&self) -> &[u8]
         ensures { result.now ≡ spelled self.now }
     {
-        &self.bytes[0..self.len]
+        &self.bytes[..self.len]
     }
 
     pub fn same(&self, other: &Name) -> bool
         ensures { Decides result (spelled self.now ≡ spelled other.now) }
     {
-        equal(self.as_bytes(), other.as_bytes())
+        self == other
     }
 }

@@ -1,15 +1,11 @@
-use Rattle.std.proofs.Common.{sym, ◌∙◌, arith}
-use Rattle.text.proofs.Wholes.{digits_low, digits_high, digits_more, digits_none}
+use Rattle.std.proofs.Common.{◌∙◌, rules, tests}
+use Rattle.std.proofs.lemmas.Iterator.{YieldsList-from_slice}
+use Rattle.std.proofs.lemmas.Iterator.Search.{all_from_yields_List}
+use Rattle.std.specs.Char.{is_ascii_digit}
+use Rattle.text.proofs.Chains.{digits_all}
 use Rattle.text.proofs.number.all_digits.Goals as goal
 
-pub returns-then-x-lt48 : goal.returns-then-x-lt48
-returns-then-x-lt48 c = sym (digits_low c.args.bytes.now c.loop-x.x-index (omega arith) (omega arith)) ∙ c.loop-x.invariant
-
-pub returns-then-x-gt57 : goal.returns-then-x-gt57
-returns-then-x-gt57 c = sym (digits_high c.args.bytes.now c.loop-x.x-index (omega arith) (omega arith)) ∙ c.loop-x.invariant
-
-pub loop-x-preserved : goal.loop-x-preserved
-loop-x-preserved c = sym (digits_more c.args.bytes.now c.loop-x.x-index (omega arith) (omega arith) (omega arith)) ∙ c.loop-x.invariant
-
 pub returns : goal.returns
-returns c = sym (digits_none c.args.bytes.now c.loop-x.x-index (omega arith)) ∙ c.loop-x.invariant
+returns c =
+    all_from_yields_List is_ascii_digit _ _ c.all.result c.all.ensures.ran (YieldsList-from_slice c.args.bytes.now cc) (λ x b q k. search (rules, tests))
+    ∙ digits_all c.args.bytes.now

@@ -1,20 +1,10 @@
-use Rattle.std.proofs.Common.{arith}
-use Rattle.text.proofs.Splits.{parts-here, parts-past, parts_none}
+use Rattle.std.proofs.Common.{◌≡◌, ◌+◌, eqb, sym, ap, ◌∙◌, rules}
+use Rattle.std.proofs.iter.runs.Made.{chains}
+use Rattle.std.specs.List.{count_by}
+use Rattle.text.proofs.Chains.{parts_are}
 use Rattle.text.proofs.parts.count.Goals as goal
-use Rattle.text.proofs.parts.count.Goals.{then-x-b, else-x-b}
-
-pub loop-x-preserved : goal.loop-x-preserved
-loop-x-preserved c =
-    elim c.if-x-b.branch [
-      | then-x-b w ↦ (
-        omega (arith, w.parts-is, parts-here c.args.b c.args.bytes.now c.loop-x.x-index (omega arith) w.if-x-b.true),
-        omega (arith, w.parts-is),
-      )
-      | else-x-b w ↦ (
-        omega (arith, w.parts-is, parts-past c.args.b c.args.bytes.now c.loop-x.x-index (omega arith) w.if-x-b.false),
-        omega (arith, w.parts-is),
-      )
-    ]
 
 pub returns : goal.returns
-returns c = omega (arith, parts_none c.args.b c.args.bytes.now c.loop-x.x-index (omega arith))
+returns c =
+    let h : c.count.result ≡ count_by (λ x. eqb x c.args.b) c.args.bytes.now = search (rules, chains) in
+    ap (λ n. 1 + n) h ∙ sym (parts_are c.args.b c.args.bytes.now)

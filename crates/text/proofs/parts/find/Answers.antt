@@ -1,17 +1,11 @@
-use Rattle.std.proofs.Common.{arith, rules}
-use Rattle.text.proofs.Splits.{place_here, place-past, place_none, place_within}
+use Rattle.std.proofs.Common.{eqb, ◌∙◌, rules, tests}
+use Rattle.std.proofs.lemmas.Iterator.{YieldsList-from_slice}
+use Rattle.std.proofs.lemmas.Iterator.Search.{position_from_yields_List}
+use Rattle.text.proofs.Chains.{position_is}
+use Rattle.text.proofs.Splits.{place_within}
 use Rattle.text.proofs.parts.find.Goals as goal
 
-pub returns-then-bytes-i : goal.returns-then-bytes-i
-returns-then-bytes-i c =
-    let h = place_here c.args.b c.args.bytes.now c.loop-i.i (omega arith) (search rules) in
-    record { place = omega arith; within = omega arith }
-
-pub loop-i-preserved : goal.loop-i-preserved
-loop-i-preserved c = omega (arith, place-past c.args.b c.args.bytes.now c.loop-i.i (omega arith) c.if-bytes-i.false)
-
-pub returns : goal.returns
-returns c =
-    let h = place_none c.args.b c.args.bytes.now c.loop-i.i (omega arith) in
-    let w = place_within c.args.b c.args.bytes.now in
-    record { place = omega arith; within = omega arith }
+pub returns-clause-place : goal.returns-clause-place
+returns-clause-place c =
+    let first = position_from_yields_List (λ x. eqb x c.args.b) _ _ c.position.result c.position.ensures.ran (YieldsList-from_slice c.args.bytes.now cc) (λ x b q k. search (rules, tests)) in
+    c.unwrap_or.ensures ∙ position_is c.args.b c.args.bytes.now c.position.result first (place_within c.args.b c.args.bytes.now)
