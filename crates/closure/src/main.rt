@@ -2,7 +2,7 @@
 #![tactic(auto)]
 
 use anyhow::anyhow;
-use definitions::loaded::{Loaded, load};
+use definitions::loaded::Loaded;
 use definitions::reader::{Definition, read};
 use files::{Unread, read_input};
 use kinds::bound::Bound;
@@ -57,7 +57,7 @@ fn print_fault(rt: &HostRuntime, fault: &Fault) -> io::Result<()> {
 
 // The definitions one after another, each into a slot of its own, up to one that is refused.
 fn close_all(rt: &HostRuntime, text: &[u8]) -> anyhow::Result<()> {
-    let mut loaded: Loaded = [false; 8];
+    let mut loaded = Loaded([false; 8]);
     let mut table = [Bound::NoBound; 64];
     let mut rest = text;
     let mut count = 0usize;
@@ -65,7 +65,7 @@ fn close_all(rt: &HostRuntime, text: &[u8]) -> anyhow::Result<()> {
         match read::<Ticks>(rest, &loaded, &mut table) {
             Ok(definition) => {
                 print_definition(rt, &definition, &table)?;
-                load(&mut loaded, definition.slot);
+                loaded.load(definition.slot);
                 rest = &rest[definition.used..];
                 count = count.saturating_add(1);
             }

@@ -1,5 +1,5 @@
 -- What a new type name and a new bound make of a draft.
-use Rattle.std.proofs.Common.{◌≡◌, ℕ, ◌+◌, ◌<◌, Bool, true, not, ◌&&◌, eqb, ltb, ◌⊎◌, List, [], ◌∷◌, ◌++◌, length, Ok, Result, sym, refl, ap, ◌∙◌, subst, inl, inr, ⊎_elim, arith}
+use Rattle.std.proofs.Common.{◌≡◌, ℕ, ◌+◌, ◌<◌, Bool, true, not, ◌&&◌, eqb, ltb, ◌⊎◌, List, [], ◌∷◌, ◌++◌, length, is_ok, Ok, Err, Result, MatchResult, sym, refl, ap, ◌∙◌, subst, inl, inr, ⊎_elim, arith}
 use Rattle.std.proofs.lemmas.List.{length_push}
 use Rattle.std.proofs.lemmas.Bool.{false≢true, cases_eq, and_from, and_parts, ltb-true, lt-ltb, ne_eqb, not_from_false}
 use Rattle.text.specs.declared.fault.Fault.{Fault}
@@ -9,13 +9,11 @@ use Rattle.kinds.specs.declared.bound.Bound.{Bound}
 use Rattle.kinds.specs.declared.bound.Bound.TheVariants.{At, NoBound}
 use Rattle.network.specs.Tables.{cell, entry}
 use Rattle.network.specs.Steps.{Lesser, Tightened}
-use Rattle.definitions.proofs.TypeNames.{names_length}
 use Rattle.definitions.specs.declared.draft.Draft.{Draft}
-use Rattle.definitions.specs.declared.types.Types.{Types}
 use Rattle.definitions.specs.Chronicles.{Limit, Chronicle, Given}
-use Rattle.definitions.specs.Reading.{is_pair, blank}
+use Rattle.definitions.specs.Reading.{is_pair}
 use Rattle.definitions.specs.TypeNames.{type_names}
-use Rattle.definitions.specs.Drafts.{Smallest, Holds, Empty, Drafted, Agrees}
+use Rattle.definitions.specs.Drafts.{Smallest, Holds, Drafted, Agrees}
 
 module _ {G : Type 0} (l : Limit G) (i j : ℕ) (c : G) where
   pub given_push : (ls : List (Limit G)) → Given (ls ++ (l ∷ [])) i j c → Given ls i j c ⊎ ((l.from ≡ i) × (l.to ≡ j) × (l.most ≡ c))
@@ -51,27 +49,12 @@ module _ {G : Type 0} (group : Ordered G) where
       go (At y) b s (inr e) f g = new b e (λ c p. group.leq_trans x y c (subst (λ z. at_most group z (At y) ≡ true) e f) (s.1 c p))
       go NoBound b s (inr e) f g = new b e (λ c p. absurd (s c p))
 
-module _ {K G : Type 0} (group : Ordered G) (value : K → G) (bound : G → Bool) (draft : Draft) (table : List (Bound K)) (d : Chronicle G) (old : Drafted group value bound draft table d) where
-  pub type_added : (types : Types) (name : List ℕ) → type_names types ≡ type_names draft.types ++ (name ∷ []) →
-      Drafted group value bound (record { slot = draft.slot; types = types; limits = draft.limits }) table (record { slot = d.slot; types = d.types ++ (name ∷ []); limits = d.limits })
-  type_added types name e = record {
-    slot = old.slot;
-    types = e ∙ ap (λ ts. ts ++ (name ∷ [])) old.types;
-    limits = old.limits;
-    held = record {
-      long = old.held.long;
-      few = omega (arith, ap length (e ∙ ap (λ ts. ts ++ (name ∷ [])) old.types), names_length types, types.fits);
-      holds = old.held.holds;
-      between = λ i j c g. let h = old.held.between i j c g in (omega (arith, length_push d.types name, h.0), omega (arith, length_push d.types name, h.1));
-      admitted = old.held.admitted;
-    };
-  }
-
+module _ {K G : Type 0} (group : Ordered G) (value : K → G) (bound : G → Bool) (draft : Draft K) (d : Chronicle G) (old : Drafted group value bound draft d) where
   module _ (from to : ℕ) (most : K) (from<n : from < length d.types) (to<n : to < length d.types) (allowed : bound (value most) ≡ true) where
     abbrev l : Limit G
     l = record { from = from; to = to; most = value most }
 
-    holds_more : (u : List (Bound K)) → Tightened group value from to (At most) table u → Holds group value u (d.limits ++ (l ∷ []))
+    holds_more : (u : List (Bound K)) → Tightened group value from to (At most) draft.table.now u → Holds group value u (d.limits ++ (l ∷ []))
     holds_more u tight i j p q = ⊎_elim
         (λ e. ⊎_elim (λ f. here e f) (λ ne. there (λ s. ne s.1)) (cases_eq to j))
         (λ ne. there (λ s. ne s.0))
@@ -81,7 +64,7 @@ module _ {K G : Type 0} (group : Ordered G) (value : K → G) (bound : G → Boo
         there ne =
             let few = old.held.few in
             subst (Smallest group (Given (d.limits ++ (l ∷ [])) i j)) (ap (meant value) (sym (tight.kept (cell i j) (λ e. ne (omega arith, omega arith)))))
-            (smallest_like group (Given d.limits i j) (Given (d.limits ++ (l ∷ [])) i j) (entry value table i j)
+            (smallest_like group (Given d.limits i j) (Given (d.limits ++ (l ∷ [])) i j) (entry value draft.table.now i j)
             (λ c g. push_given l i j c d.limits (inl g))
             (λ c g. ⊎_elim (λ h. h) (λ h. absurd (ne (h.0, h.1))) (given_push l i j c d.limits g))
             (old.held.holds i j p q))
@@ -91,20 +74,21 @@ module _ {K G : Type 0} (group : Ordered G) (value : K → G) (bound : G → Boo
             smallest_like group (λ c. Given d.limits i j c ⊎ (value most ≡ c)) (Given (d.limits ++ (l ∷ [])) i j) (entry value u i j)
             (λ c. ⊎_elim (λ g. push_given l i j c d.limits (inl g)) (λ g. push_given l i j c d.limits (inr (e, f, g))))
             (λ c g. ⊎_elim inl (λ h. inr h.2) (given_push l i j c d.limits g))
-            (smallest_more group (Given d.limits i j) (value most) (entry value table i j) (entry value u i j) (old.held.holds i j p q)
-            (subst (λ y. Lesser group (entry value table i y) (At (value most)) (entry value u i y)) f
-            (subst (λ x. Lesser group (entry value table x to) (At (value most)) (entry value u x to)) e tight.lesser)))
+            (smallest_more group (Given d.limits i j) (value most) (entry value draft.table.now i j) (entry value u i j) (old.held.holds i j p q)
+            (subst (λ y. Lesser group (entry value draft.table.now i y) (At (value most)) (entry value u i y)) f
+            (subst (λ x. Lesser group (entry value draft.table.now x to) (At (value most)) (entry value u x to)) e tight.lesser)))
 
-    pub limit_added : (u : List (Bound K)) → Tightened group value from to (At most) table u → length u ≡ length table →
-        Drafted group value bound (record { slot = draft.slot; types = draft.types; limits = draft.limits + 1 }) u (record { slot = d.slot; types = d.types; limits = d.limits ++ (l ∷ []) })
-    limit_added u tight long = record {
-      slot = old.slot;
-      types = old.types;
-      limits = omega (arith, length_push d.limits l, old.limits);
+    pub limit_added : (after : Draft K) → after.slot ≡ draft.slot → type_names after.types ≡ type_names draft.types → after.limits ≡ draft.limits + 1 →
+        Tightened group value from to (At most) draft.table.now after.table.now → length after.table.now ≡ length draft.table.now →
+        Drafted group value bound after (record { slot = d.slot; types = d.types; limits = d.limits ++ (l ∷ []) })
+    limit_added after slot types limits tight long = record {
+      slot = slot ∙ old.slot;
+      types = types ∙ old.types;
+      limits = omega (arith, length_push d.limits l, old.limits, limits);
       held = record {
         long = omega (arith, old.held.long);
         few = old.held.few;
-        holds = holds_more u tight;
+        holds = holds_more after.table.now tight;
         between = λ i j c g. ⊎_elim (old.held.between i j c) (λ h. (omega (arith, h.0), omega (arith, h.1))) (given_push l i j c d.limits g);
         admitted = λ i j c g. ⊎_elim (old.held.admitted i j c) (λ h. subst (λ x. bound x ≡ true) h.2 allowed) (given_push l i j c d.limits g);
       };
@@ -127,18 +111,6 @@ pair_inside d l pair =
     let inner = and_parts (ltb l.to (length d.types)) (not (eqb l.from l.to)) outer.1 in
     (ltb-true l.from (length d.types) outer.0, ltb-true l.to (length d.types) inner.0)
 
--- nothing is read yet
-pub none_drafted : {K G : Type 0} (group : Ordered G) (value : K → G) (bound : G → Bool) (table : List (Bound K)) (types : Types) → type_names types ≡ [] → Empty group value table →
-    Drafted group value bound (record { slot = 0; types = types; limits = 0 }) table blank
-none_drafted group value bound table types none empty = record {
-  slot = refl;
-  types = none;
-  limits = refl;
-  held = record {
-    long = empty.0;
-    few = omega arith;
-    holds = λ i j p q. subst (Smallest group (Given [] i j)) (ap (meant value) (sym (empty.1 (cell i j) (omega arith)))) (λ c g. g);
-    between = λ i j c g. absurd g;
-    admitted = λ i j c g. absurd g;
-  };
-}
+pub when_is_ok : {T E : Type 0} (P Q : Type 0) (r : Result T E) → is_ok r ≡ true → MatchResult r (λ _. P) (λ _. Q) → P
+when_is_ok P Q (Ok x) e p = p
+when_is_ok P Q (Err x) e q = absurd (false≢true e)

@@ -8,8 +8,8 @@ use Rattle.text.specs.Lines.{line_of}
 use Rattle.text.specs.Names.{is_name}
 use Rattle.text.specs.Split.{split}
 use Rattle.text.proofs.Splits.{split_some_part}
+use Rattle.kinds.specs.Fields.{Takes, admitted}
 use Rattle.text.specs.Following.{then}
-use Rattle.kinds.specs.Fields.{Takes}
 use Rattle.definitions.specs.declared.words.Word.{Word}
 use Rattle.definitions.specs.declared.words.Word.TheVariants.{Chronicle as Opens, Var, Bound, End}
 use Rattle.definitions.specs.Chronicles.{Chronicle, Said}
@@ -19,7 +19,7 @@ use Rattle.definitions.specs.Grammar.Spells.{chronicle_line, var_line, bound_lin
 use Rattle.definitions.specs.Grammar.Follows.{opens, names, bounds, ends}
 use Rattle.definitions.specs.Grammar.MadeOf.{last, more}
 use Rattle.definitions.specs.Grammar.FirstFault.{here, later}
-use Rattle.definitions.specs.Lines.{word_at, fields_of, small, admitted, valued, worded, item_of}
+use Rattle.definitions.specs.Lines.{word_at, fields_of, small, valued, worded, item_of}
 use Rattle.definitions.specs.Reading.{blank, is_loaded, is_closing, is_pair, accepted, Sound, Reading, judged, after, read_from}
 use Rattle.definitions.proofs.Drafting.{pair_passes}
 use Rattle.definitions.proofs.Items.{given_some, item_valued}
@@ -77,7 +77,7 @@ three_fields (f ∷ g ∷ []) e = absurd (omega arith)
 three_fields (f ∷ g ∷ h ∷ fs) e = refl
 
 module _ {G : Type 0} (fields : ℕ) (means : List (List ℕ) → Option G) (bound : G → Bool) (takes : Takes fields means) where
-  admitted_is : (o : Option G) (c : G) → admitted fields means bound o ≡ Some c → (o ≡ Some c) × (bound c ≡ true)
+  admitted_is : (o : Option G) (c : G) → admitted bound o ≡ Some c → (o ≡ Some c) × (bound c ≡ true)
   admitted_is None c e = let z : ◌≡◌ {A = ℕ} 0 1 = cc in absurd (omega arith)
   admitted_is (Some x) c e = go (bound x) refl e
     where
@@ -97,7 +97,7 @@ module _ {G : Type 0} (fields : ℕ) (means : List (List ℕ) → Option G) (bou
   spelled_out n fs said Bound stands count e =
       let i = given_ok (small (get_or fs 1 [])) _ _ said e in
       let j = given_ok (small (get_or fs 2 [])) _ _ said i.2 in
-      let c = given_ok (admitted fields means bound (means (drop 3 fs))) _ _ said j.2 in
+      let c = given_ok (admitted bound (means (drop 3 fs))) _ _ said j.2 in
       let m = admitted_is (means (drop 3 fs)) c.0 c.1 in
       let is = three_fields fs (omega arith) ∙ ap (λ f. f ∷ get_or fs 1 [] ∷ get_or fs 2 [] ∷ drop 3 fs) stands.1 in
       subst (λ l. Spells means bound n l said) (sym is)
@@ -120,7 +120,7 @@ module _ {G : Type 0} (fields : ℕ) (means : List (List ℕ) → Option G) (bou
   spells_item {n} (bound_line {f} {g} {cs} {i} {j} {c} other fi gj is allowed) =
       item_valued fields means bound n (codes "bound" ∷ f ∷ g ∷ cs) Bound (stands_word n (codes "bound") Bound (other, refl)) (omega (arith, takes.counted cs c is))
       ∙ given_some (small f) _ _ i fi ∙ given_some (small g) _ _ j gj
-      ∙ given_some (admitted fields means bound (means cs)) _ _ c (ap (admitted fields means bound) is ∙ cond-true (bound c) _ _ allowed)
+      ∙ given_some (admitted bound (means cs)) _ _ c (ap (admitted bound) is ∙ cond-true (bound c) _ _ allowed)
   spells_item {n} (end_line other) = item_valued fields means bound n (codes "end" ∷ []) End (stands_word n (codes "end") End (other, refl)) refl
 
 cond_err : {B : Type 0} (b : Bool) (f : Fault) (r : Result B Fault) (y : B) → cond b (Err f) r ≡ Ok y → (b ≡ false) × (r ≡ Ok y)

@@ -20,11 +20,11 @@ use Rattle.definitions.specs.Grammar.Follows.{opens, names, bounds, ends}
 use Rattle.definitions.specs.Grammar.MadeOf.{last, more}
 use Rattle.definitions.specs.Lines.{small, item_of}
 use Rattle.definitions.specs.Openings.{Opened, Opens}
-use Rattle.definitions.specs.Reading.{blank, is_loaded, accepted, with_slot, Reading, judged, reading_of}
+use Rattle.definitions.specs.Reading.{blank, is_loaded, with_slot, Reading, judged, reading_of}
 use Rattle.definitions.specs.Steps.{line_end}
 use Rattle.definitions.proofs.Drafting.{given_push}
 use Rattle.definitions.proofs.Grammar.{item_spells, read_made}
-use Rattle.definitions.proofs.Judging.{judged_is}
+use Rattle.definitions.proofs.Judging.{judged_is, judged_line, judged_item}
 use Rattle.definitions.proofs.Progress.{read_fault, read_on_lem, reading_some}
 
 -- a slot or a variable is 1 to 8
@@ -142,13 +142,11 @@ module _ {G : Type 0} (fields : ℕ) (means : List (List ℕ) → Option G) (bou
 
   -- the line or what it says is at fault
   pub line_refused : (f : Fault) → line_of 1 (split 10 text) ≡ Err f → reading_of fields means bound loaded text ≡ Err f
-  line_refused f e = read_fault fields means bound loaded 1 0 blank text f (ap (λ l. then l (λ l. then (item_of fields means bound 1 (split 9 l)) (λ said. then (accepted loaded 1 blank said) (λ made. Ok (record { says = said; makes = made }))))) e)
+  line_refused f e = read_fault fields means bound loaded 1 0 blank text f (judged_line fields means bound loaded 1 blank (split 10 text) f e)
 
   module _ (line : List ℕ) (first : line_of 1 (split 10 text) ≡ Ok line) where
     pub item_refused : (f : Fault) → item_of fields means bound 1 (split 9 line) ≡ Err f → reading_of fields means bound loaded text ≡ Err f
-    item_refused f e = read_fault fields means bound loaded 1 0 blank text f
-        (ap (λ l. then l (λ l. then (item_of fields means bound 1 (split 9 l)) (λ said. then (accepted loaded 1 blank said) (λ made. Ok (record { says = said; makes = made }))))) first
-        ∙ ap (λ i. then i (λ said. then (accepted loaded 1 blank said) (λ made. Ok (record { says = said; makes = made })))) e)
+    item_refused f e = read_fault fields means bound loaded 1 0 blank text f (judged_item fields means bound loaded 1 blank (split 10 text) line first f e)
 
     -- no other line is the first
     item_opens : (said : Said G) → item_of fields means bound 1 (split 9 line) ≡ Ok said → (s : ℕ) × (said ≡ opening s) × (1 ≤ s) × (s ≤ 8)

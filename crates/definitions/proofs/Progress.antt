@@ -6,27 +6,18 @@ use Rattle.text.specs.Lines.{line_of}
 use Rattle.text.specs.Split.{split}
 use Rattle.text.proofs.Splits.{split_some_part}
 use Rattle.text.specs.Following.{then}
-use Rattle.definitions.specs.declared.reader.Step.{Step}
+use Rattle.definitions.specs.declared.reader.Definition.{Definition}
 use Rattle.definitions.specs.Chronicles.{Chronicle, Said}
 use Rattle.definitions.specs.Chronicles.Said.{opening, variable, limit, closing}
 use Rattle.definitions.specs.Lines.{item_of}
 use Rattle.definitions.specs.Reading.{is_closing, accepted, Sound, Reading, judged, after, read_from}
-use Rattle.definitions.specs.Steps.{line_end, Steps}
+use Rattle.definitions.specs.Steps.{line_end, Defined, Parses}
 use Rattle.definitions.proofs.Judging.{cond_ok, same_ok}
 use Rattle.definitions.proofs.Lining.{line_ends, line_rest}
 
 pub then_ok : {A B : Type 0} (r : Result A Fault) (next : A → Result B Fault) (y : B) → then r next ≡ Ok y → (x : A) × (r ≡ Ok x) × (next x ≡ Ok y)
 then_ok (Ok x) next y e = (x, refl, e)
 then_ok (Err f) next y e = let z : ◌≡◌ {A = ℕ} 0 1 = cc in absurd (omega arith)
-
-pub steps_err : {G : Type 0} (j : Result (Sound G) Fault) (end : ℕ) (P : Chronicle G → Type 0) (e : Fault) → Steps j end P (Err e) → j ≡ Err e
-steps_err (Ok s) end P e h = absurd h
-steps_err (Err f) end P e h = ap Err (sym h)
-
-pub steps_ok : {G : Type 0} (j : Result (Sound G) Fault) (end : ℕ) (P : Chronicle G → Type 0) (st : Step) → Steps j end P (Ok st) →
-    (s : Sound G) × (j ≡ Ok s) × (st.used ≡ end) × (st.closing ≡ is_closing s.says) × P s.makes
-steps_ok (Ok s) end P st h = (s, refl, h.0, h.1, h.2)
-steps_ok (Err f) end P st h = absurd h
 
 module _ {G : Type 0} (fields : ℕ) (means : List (List ℕ) → Option G) (bound : G → Bool) (loaded : List Bool) where
   abbrev From : ℕ → ℕ → Chronicle G → List (List ℕ) → Result (Reading G) Fault
@@ -64,6 +55,22 @@ module _ {G : Type 0} (fields : ℕ) (means : List (List ℕ) → Option G) (bou
 
       pub read_on_lem : is_closing s.says ≡ false → From n used d (split 10 (drop used text)) ≡ From (n + 1) (line_end text used) s.makes (split 10 (drop (line_end text used) text))
       read_on_lem goes = step_on ∙ cond-false (is_closing s.says) _ _ goes
+
+  -- what is left of a text, from line n on, comes to what the whole does
+  module _ (n used : ℕ) (d : Chronicle G) (text : List ℕ) (whole : Result (Reading G) Fault) (left : From n used d (split 10 (drop used text)) ≡ whole) (P : Chronicle G → Type 0) where
+    pub parses_err : (f : Fault) → judged fields means bound loaded n d (split 10 (drop used text)) ≡ Err f → Parses whole P (Err f)
+    parses_err f e = subst (λ r. Parses r P (Err f)) (sym (read_fault n used d text f e) ∙ left) refl
+
+    module _ (said : Said G) (made : Chronicle G) (sound : judged fields means bound loaded n d (split 10 (drop used text)) ≡ Ok (record { says = said; makes = made })) (end : ℕ) (ends : end ≡ line_end text used) where
+      pub parses_last : is_closing said ≡ true → (x : Definition) → Defined (record { chronicle = made; lines = n; used = end }) x → P made → Parses whole P (Ok x)
+      parses_last closes x is holds =
+          let done = read_done n used d text (record { says = said; makes = made }) sound closes in
+          subst (λ r. Parses r P (Ok x)) (ap (λ k. Ok (record { chronicle = made; lines = n; used = k })) ends ∙ sym done ∙ left) (is, holds)
+
+      pub read_next : is_closing said ≡ false → From (n + 1) end made (split 10 (drop end text)) ≡ whole
+      read_next goes =
+          ap (λ k. From (n + 1) k made (split 10 (drop k text))) ends
+          ∙ sym (read_on_lem n used d text (record { says = said; makes = made }) sound goes) ∙ left
 
   closing_some : (n : ℕ) (d : Chronicle G) (said : Said G) (made : Chronicle G) → is_closing said ≡ true → accepted loaded n d said ≡ Ok made → 0 < length made.types
   closing_some n d (opening s) made c e = absurd (both_ways _ refl c)

@@ -1,5 +1,5 @@
 -- Chains over a table that holds the smallest bounds, and chains over the bounds themselves, come to the same.
-use Rattle.std.proofs.Common.{IfOk, ◌≡◌, ℕ, ◌<◌, ◌≤◌, Bool, true, false, List, length, is_err, Ok, Err, MatchBool, Result, refl, ap, ◌∙◌, subst, ⊎_elim, arith}
+use Rattle.std.proofs.Common.{◌≡◌, ℕ, ◌<◌, ◌≤◌, Bool, true, false, List, length, is_ok, Ok, Err, MatchBool, Result, refl, ap, ◌∙◌, subst, ⊎_elim, arith}
 use Rattle.std.proofs.lemmas.Bool.{false≢true, both_ways, cases_Bool}
 use Rattle.text.specs.declared.fault.Cause.TheVariants.{Contradictory as Contradicts}
 use Rattle.text.specs.declared.fault.Fault.{Fault}
@@ -105,28 +105,16 @@ module _ {K G : Type 0} (group : Ordered G) (value : K → G) (bound : G → Boo
       go (Err NotAdmitted) h = absurd (h.1 (all_admitted_lem group value bound t reading.chronicle held))
       go (Err Contradiction) h = (contradictory_given group value bound t reading.chronicle held h.2, ap (λ l. fault_at Contradicts l 0) parsed.0.lines)
 
-  pub refused : (r : Result (Unit {0}) Unclosed) → is_err r ≡ true → answer r ≡ Err (fault_at Contradicts x.lines 0)
-  refused (Ok done) e = absurd (false≢true e)
+  pub refused : (r : Result (Unit {0}) Unclosed) → is_ok r ≡ false → answer r ≡ Err (fault_at Contradicts x.lines 0)
+  refused (Ok done) e = absurd (both_ways _ e refl)
   refused (Err f) e = refl
 
-  pub taken : (r : Result (Unit {0}) Unclosed) → is_err r ≡ false → answer r ≡ Ok x
+  pub taken : (r : Result (Unit {0}) Unclosed) → is_ok r ≡ true → answer r ≡ Ok x
   taken (Ok done) e = refl
-  taken (Err f) e = absurd (both_ways _ e refl)
+  taken (Err f) e = absurd (false≢true e)
 
   -- a definition was read, so the memory was long enough
   pub when_read : (a : Result (Reading G) Fault) (P : Chronicle G → Type 0) (t0 t1 : List (Bound K)) (b : Bool) (r : Result Definition Fault) →
       MatchBool b (Parses a P (Ok x)) (TooShort t0 t1 (Ok x)) → (Parses a P (Ok x) → Loads group value a u r) → MatchBool b (Loads group value a u r) (TooShort t0 u r)
   when_read a P t0 t1 true r h f = f h
   when_read a P t0 t1 false r h f = let e = h.0 in let z : ◌≡◌ {A = ℕ} 0 1 = cc in absurd (omega arith)
-
--- nothing was read
-pub when_refused : {K G : Type 0} (group : Ordered G) (value : K → G) (a : Result (Reading G) Fault) (P : Chronicle G → Type 0) (t0 t1 : List (Bound K)) (b : Bool) (e : Fault) →
-    MatchBool b (Parses a P (Err e)) (TooShort t0 t1 (Err e)) → MatchBool b (Loads group value a t1 (Err e)) (TooShort t0 t1 (Err e))
-when_refused group value (Ok reading) P t0 t1 true e h = absurd h
-when_refused group value (Err f) P t0 t1 true e h = h
-when_refused group value a P t0 t1 false e h = h
-
--- what closing a table leaves, where it is not refused
-pub when_ok : (r : Result (Unit {0}) Unclosed) {P : Type 0} → is_err r ≡ false → IfOk r (λ _. P) → P
-when_ok (Ok done) closed left = left
-when_ok (Err f) closed left = absurd (both_ways _ closed refl)

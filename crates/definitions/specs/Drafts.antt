@@ -32,11 +32,12 @@ module _ {K G : Type 0} (group : Ordered G) (value : K → G) where
     pub between : (i j : ℕ) (c : G) → Given d.limits i j c → (i < length d.types) × (j < length d.types)
     pub admitted : (i j : ℕ) (c : G) → Given d.limits i j c → bound c ≡ true
 
-  pub record Drafted (bound : G → Bool) (draft : Draft) (table : List (Bound K)) (d : Chronicle G) : Type 0 where
+  -- the draft and its table stand for a chronicle
+  pub record Drafted (bound : G → Bool) (draft : Draft K) (d : Chronicle G) : Type 0 where
     pub slot : draft.slot ≡ d.slot
     pub types : type_names draft.types ≡ d.types
     pub limits : draft.limits ≡ length d.limits
-    pub held : Held bound table d
+    pub held : Held bound draft.table.now d
 
 -- the bound that a line gives is admitted
 abbrev pub Admits : {G : Type 0} → (G → Bool) → Said G → Type 0

@@ -8,6 +8,7 @@ use Rattle.text.specs.Faults.{fault_at}
 use Rattle.text.specs.Following.{given}
 use Rattle.text.specs.Names.{is_name}
 use Rattle.text.specs.Numbers.{whole, within}
+use Rattle.kinds.specs.Fields.{admitted}
 use Rattle.definitions.specs.declared.words.Word.{Word}
 use Rattle.definitions.specs.declared.words.Word.TheVariants.{Chronicle, Var, Bound, End}
 use Rattle.definitions.specs.Chronicles.{Limit, Said}
@@ -35,10 +36,6 @@ abbrev pub limit_of : {G : Type 0} → ℕ → ℕ → G → Limit G
 limit_of i j c = record { from = i - 1; to = j - 1; most = c }
 
 module _ {G : Type 0} (fields : ℕ) (means : List (List ℕ) → Option G) (bound : G → Bool) where
-  abbrev pub admitted : Option G → Option G
-  admitted None = None
-  admitted (Some c) = cond (bound c) (Some c) None
-
   -- the fields after the word, from the left
   abbrev pub valued : ℕ → Word → List (List ℕ) → Result (Said G) Fault
   valued n Chronicle fs = given (small (slice_index_or fs 1 [])) (fault_at BadField n 2) (λ s. Ok (opening s))
@@ -46,7 +43,7 @@ module _ {G : Type 0} (fields : ℕ) (means : List (List ℕ) → Option G) (bou
   valued n Bound fs =
       given (small (slice_index_or fs 1 [])) (fault_at BadField n 2) (λ i.
       given (small (slice_index_or fs 2 [])) (fault_at BadField n 3) (λ j.
-      given (admitted (means (drop 3 fs))) (fault_at BadField n 4) (λ c. Ok (limit (limit_of i j c)))))
+      given (admitted bound (means (drop 3 fs))) (fault_at BadField n 4) (λ c. Ok (limit (limit_of i j c)))))
   valued n End fs = Ok closing
 
   -- the number of fields, then the fields

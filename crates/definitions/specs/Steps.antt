@@ -1,23 +1,15 @@
--- What reading one line, and reading a whole definition, answers in machine values.
+-- What reading a definition answers in machine values.
 use Rattle.std.specs.Prelude.{◌≡◌, ℕ, ◌+◌, List, [], length, drop, Ok, Err, Result, slice_index_or}
 use Rattle.text.specs.declared.fault.Fault.{Fault}
 use Rattle.text.specs.Split.{split}
 use Rattle.definitions.specs.declared.reader.Definition.{Definition}
-use Rattle.definitions.specs.declared.reader.Step.{Step}
 use Rattle.definitions.specs.Chronicles.{Chronicle}
-use Rattle.definitions.specs.Reading.{Sound, Reading, is_closing}
+use Rattle.definitions.specs.Reading.{Reading}
 use Rattle.definitions.specs.TypeNames.{type_names}
 
 -- the byte after the line that begins at byte `used`, and after its line feed
 abbrev pub line_end : List ℕ → ℕ → ℕ
 line_end text used = used + length (slice_index_or (split 10 (drop used text)) 0 []) + 1
-
--- a line's judgement, with P of the chronicle that it makes
-abbrev pub Steps : {G : Type 0} → Result (Sound G) Fault → ℕ → (Chronicle G → Type 0) → Result Step Fault → Type 0
-Steps (Ok s) end P (Ok r) = (r.used ≡ end) × (r.closing ≡ is_closing s.says) × P s.makes
-Steps (Ok s) end P (Err e) = ⊥
-Steps (Err f) end P (Ok r) = ⊥
-Steps (Err f) end P (Err e) = e ≡ f
 
 -- the machine values of a definition that is read
 pub record Defined {G : Type 0} (reading : Reading G) (x : Definition) : Type 0 where

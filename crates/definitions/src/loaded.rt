@@ -2,23 +2,23 @@
 ghost use Rattle.std.specs.Prelude.{◌≡◌, ◌-◌, true, ◌&&◌, if◌then◌else◌, nat_le, nat_lt, slice_set};
 ghost use Rattle.definitions.specs.Reading.{is_loaded};
 
-pub type Loaded = [bool; 8];
+#[derive(Clone, Copy, Debug, PartialEq, Eq)]
+pub struct Loaded(pub [bool; 8]);
 
-pub fn is_loaded(loaded: &Loaded, slot: usize) -> bool
-    ensures { result ≡ is_loaded loaded.now slot }
-{
-    let at = slot.saturating_sub(1);
-    if at >= 8 {
-        return false;
+impl Loaded {
+    pub fn is_loaded(&self, slot: usize) -> bool
+        ensures { result ≡ is_loaded self.now.0 slot }
+    {
+        let at = slot.saturating_sub(1);
+        self.0.get(at).copied().unwrap_or(false)
     }
-    loaded[at]
-}
 
-// Marks a slot as loaded; outside 1 to 8 there is none to mark.
-pub fn load(loaded: &mut Loaded, slot: usize)
-    ensures { loaded.new ≡ (if nat_lt 0 slot && nat_le slot 8 then slice_set loaded.old (slot - 1) true else loaded.old) }
-{
-    if slot >= 1 && slot <= 8 {
-        loaded[slot - 1] = true;
+    // Marks a slot as loaded; outside 1 to 8 there is none to mark.
+    pub fn load(&mut self, slot: usize)
+        ensures { self.new.0 ≡ (if nat_lt 0 slot && nat_le slot 8 then slice_set self.old.0 (slot - 1) true else self.old.0) }
+    {
+        if slot >= 1 && slot <= 8 {
+            self.0[slot - 1] = true;
+        }
     }
 }

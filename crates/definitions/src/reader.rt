@@ -1,20 +1,19 @@
 // A definition read from the front of a text.
-ghost use Rattle.std.specs.Prelude.{◌≡◌, ◌<◌, ◌≤◌, length, drop, IfOk, MatchBool, nat_le};
+ghost use Rattle.std.specs.Prelude.{◌≡◌, ◌<◌, ◌≤◌, length, IfOk, MatchBool, nat_le};
 ghost use Rattle.network.specs.Steps.{Light};
 ghost use Rattle.network.specs.Tables.{Beyond};
 ghost use Rattle.text.specs.declared.fault.Cause.TheVariants.{Contradictory};
 ghost use Rattle.text.specs.Faults.{fault_at};
 ghost use Rattle.text.specs.Split.{split};
-ghost use Rattle.definitions.specs.Chronicles.{Chronicle};
-ghost use Rattle.definitions.specs.Reading.{is_closing, judged, read_from, blank, reading_of};
+ghost use Rattle.definitions.specs.Reading.{is_closing, read_from, blank, reading_of};
 ghost use Rattle.definitions.specs.Items.{said_by};
-ghost use Rattle.definitions.specs.Drafts.{Empty, Held, Drafted};
+ghost use Rattle.definitions.specs.Drafts.{Empty, Held};
 ghost use Rattle.definitions.specs.Grammar.{ReadAsMade};
 ghost use Rattle.definitions.specs.Loading.{TooShort, Loads};
-ghost use Rattle.definitions.specs.Steps.{line_end, Steps, Parses};
+ghost use Rattle.definitions.specs.Steps.{Parses};
 ghost use Rattle.definitions.specs.TypeNames.{type_names};
 
-use crate::draft::{Draft, accept};
+use crate::draft::Draft;
 use crate::item::{Item, read_item};
 use crate::loaded::Loaded;
 use crate::types::Types;
@@ -24,13 +23,6 @@ use network::closing::close;
 use network::table::empty;
 use text::fault::{Cause, Fault, Place};
 use text::lines::line_at;
-
-// What one line came to: where the next begins, and whether it was the last.
-#[derive(Clone, Copy)]
-pub struct Step {
-    used: usize,
-    closing: bool,
-}
 
 // A definition that was read: its slot, the type names of its variables, the number of its bounds, its lines and bytes.
 #[derive(Clone, Copy)]
@@ -48,28 +40,6 @@ fn is_closing<K: Kind>(item: &Item<K>) -> bool
     matches!(item, Item::Closing)
 }
 
-// Line `number`, which begins at byte `used`.
-fn read_line<K: Kind>(
-    text: &[u8],
-    used: usize,
-    number: usize,
-    loaded: &Loaded,
-    draft: &mut Draft,
-    table: &mut [Bound<K>],
-) -> Result<Step, Fault>
-    ensures step { (d : Chronicle K.G) → Drafted K.group K.value K.bound draft.old table.old d → Steps (judged K.fields K.means K.bound loaded.now number d (split 10 (drop used text.now))) (line_end text.now used) (Drafted K.group K.value K.bound draft.new table.new) result }
-    ensures kept { Beyond table.old table.new }
-    ensures on { IfOk result (λ s. (used < s.used) × (s.used ≤ length text.now)) }
-{
-    let line = line_at(text, used, number)?;
-    let item = read_item::<K>(line, number)?;
-    accept(draft, table, loaded, &item, number)?;
-    Ok(Step {
-        used: used + line.len() + 1,
-        closing: is_closing(&item),
-    })
-}
-
 // The lines of a definition, from the first on; the table is empty at first and has its bounds at last.
 fn read_lines<K: Kind>(
     text: &[u8],
@@ -78,27 +48,26 @@ fn read_lines<K: Kind>(
 ) -> Result<Definition, Fault>
     ensures kept { Beyond table.old table.new }
     ensures within { IfOk result (λ x. (0 < x.used) × (x.used ≤ length text.now)) }
-    ensures parses { Empty K.group K.value table.old → Parses (read_from K.fields K.means K.bound loaded.now 1 0 blank (split 10 text.now)) (Held K.group K.value K.bound table.new) result }
+    ensures parses { Empty K.group K.value table.old → Parses (read_from K.fields K.means K.bound loaded.now.0 1 0 blank (split 10 text.now)) (Held K.group K.value K.bound table.new) result }
 {
-    let mut draft = Draft {
-        slot: 0,
-        types: Types::new(),
-        limits: 0,
-    };
+    let mut draft = Draft::new(table);
     let mut used = 0;
     let mut number = 1;
+    // Each line may be at fault, and the last one is told by what it says.
     'lines: loop {
-        let step = read_line(text, used, number, loaded, &mut draft, table)?;
-        if step.closing {
+        let line = line_at(text, used, number)?;
+        let item = read_item(line, number)?;
+        draft.accept(loaded, &item, number)?;
+        used += line.len() + 1;
+        if is_closing(&item) {
             return Ok(Definition {
                 slot: draft.slot,
                 types: draft.types,
                 limits: draft.limits,
                 lines: number,
-                used: step.used,
+                used,
             });
         }
-        used = step.used;
         number += 1;
     }
 }
@@ -112,11 +81,9 @@ pub fn parse<K: Kind>(
 ) -> Result<Definition, Fault>
     ensures kept { Beyond table.old table.new }
     ensures within { IfOk result (λ x. (0 < x.used) × (x.used ≤ length text.now)) }
-    ensures parses { MatchBool (nat_le 64 (length table.old)) (Parses (reading_of K.fields K.means K.bound loaded.now text.now) (Held K.group K.value K.bound table.new) result) (TooShort table.old table.new result) }
+    ensures parses { MatchBool (nat_le 64 (length table.old)) (Parses (reading_of K.fields K.means K.bound loaded.now.0 text.now) (Held K.group K.value K.bound table.new) result) (TooShort table.old table.new result) }
 {
-    if !empty(table) {
-        return Err(Place { line: 0, field: 0 }.fault(Cause::ShortMemory));
-    }
+    empty(table).map_err(|_| Place { line: 0, field: 0 }.fault(Cause::ShortMemory))?;
     read_lines(text, loaded, table)
 }
 
@@ -139,13 +106,11 @@ pub fn read<K: Kind>(
 ) -> Result<Definition, Fault>
     ensures kept { Beyond table.old table.new }
     ensures within { IfOk result (λ x. (0 < x.used) × (x.used ≤ length text.now)) }
-    ensures as_made { ReadAsMade K.fields K.means K.bound loaded.now text.now }
-    ensures loads { MatchBool (nat_le 64 (length table.old)) (Loads K.group K.value (reading_of K.fields K.means K.bound loaded.now text.now) table.new result) (TooShort table.old table.new result) }
+    ensures as_made { ReadAsMade K.fields K.means K.bound loaded.now.0 text.now }
+    ensures loads { MatchBool (nat_le 64 (length table.old)) (Loads K.group K.value (reading_of K.fields K.means K.bound loaded.now.0 text.now) table.new result) (TooShort table.old table.new result) }
     ensures light { IfOk result (λ x. Light K.value K.weight (length (type_names x.types)) 256 table.new) }
 {
     let definition = parse(text, loaded, table)?;
-    if close(table, definition.types.len()).is_err() {
-        return Err(contradiction(&definition));
-    }
+    close(table, definition.types.len()).map_err(|_| contradiction(&definition))?;
     Ok(definition)
 }

@@ -1,5 +1,5 @@
 // Definitions at the edges of what is read, and the bounds that follow from one.
-use crate::loaded::{Loaded, load};
+use crate::loaded::Loaded;
 use crate::reader::{Definition, read};
 use kinds::bound::Bound;
 use kinds::ticks::Ticks;
@@ -8,10 +8,11 @@ use std::process::Abort;
 use std::test::Fail;
 use text::fault::{Cause, Fault, Place};
 use text::lines::faulty_line;
+use text::name::Name;
 use text::parts::{count, part};
 use text::writing::put;
 
-const NONE_LOADED: Loaded = [false; 8];
+const NONE_LOADED: Loaded = Loaded([false; 8]);
 
 fn in_ticks(text: &[u8], loaded: &Loaded) -> Result<Definition, Fault> {
     let mut table = [Bound::NoBound; 64];
@@ -29,27 +30,12 @@ fn has_fault(
     cause: Cause,
     line: usize,
     field: usize,
-) -> Result<(), Fail> {
-    match r {
-        Ok(_) => {
-            assert!(rt; false);
-            Ok(())
-        },
-        Err(fault) => {
-            assert_eq!(rt; fault, Place { line, field }.fault(cause));
-            Ok(())
-        },
-    }
+) {
+    assert_eq!(rt; r.err(), Some(Place { line, field }.fault(cause)));
 }
 
-fn refused(
-    rt: &impl Abort,
-    text: &[u8],
-    cause: Cause,
-    line: usize,
-    field: usize,
-) -> Result<(), Fail> {
-    has_fault(rt, in_ticks(text, &NONE_LOADED), cause, line, field)
+fn refused(rt: &impl Abort, text: &[u8], cause: Cause, line: usize, field: usize) {
+    has_fault(rt, in_ticks(text, &NONE_LOADED), cause, line, field);
 }
 
 // Puts a definition of two variables, with `line` as its line 4, so often as said.
@@ -69,16 +55,15 @@ fn with_line(line: &[u8]) -> [u8; 128] {
     text
 }
 
-fn line_refused(rt: &impl Abort, line: &[u8], cause: Cause, field: usize) -> Result<(), Fail> {
-    refused(rt, &with_line(line), cause, 4, field)
+fn line_refused(rt: &impl Abort, line: &[u8], cause: Cause, field: usize) {
+    refused(rt, &with_line(line), cause, 4, field);
 }
 
 // Lines parted by slashes, each in a definition of its own.
-fn lines_refused(rt: &impl Abort, lines: &[u8], cause: Cause, field: usize) -> Result<(), Fail> {
+fn lines_refused(rt: &impl Abort, lines: &[u8], cause: Cause, field: usize) {
     for k in 0..count(lines, b'/') {
-        line_refused(rt, part(lines, b'/', k), cause, field)?;
+        line_refused(rt, part(lines, b'/', k), cause, field);
     }
-    Ok(())
 }
 
 // How many bounds a definition has that holds such a line and is read.
@@ -87,22 +72,11 @@ fn limits_with(line: &[u8]) -> Result<usize, Fault> {
     Ok(definition.limits)
 }
 
-fn has_type(
-    rt: &impl Abort,
-    definition: &Definition,
-    i: usize,
-    letters: &[u8],
-) -> Result<(), Fail> {
-    match definition.types.get(i) {
-        Some(name) => {
-            assert_eq!(rt; name.as_bytes(), letters);
-            Ok(())
-        },
-        None => {
-            assert!(rt; false);
-            Ok(())
-        },
-    }
+fn has_type(rt: &impl Abort, definition: &Definition, i: usize, letters: &[u8]) {
+    assert_eq!(rt;
+        definition.types.get(i).as_ref().map(Name::as_bytes),
+        Some(letters)
+    );
 }
 
 fn between(table: &[Bound<Ticks>], from: usize, to: usize) -> Option<i64> {
@@ -127,7 +101,7 @@ fn bounds_follow_from_those_written(rt: HostRuntime) -> Result<(), Fail> {
         ],
         [3, 4, 9, 93]
     );
-    has_type(&rt, &definition, 2, b"TILT")?;
+    has_type(&rt, &definition, 2, b"TILT");
     assert_eq!(rt; between(&table, 0, 2), Some(10));
     assert_eq!(rt; between(&table, 2, 0), Some(-3));
     assert_eq!(rt; in_ticks(&text[0..93], &NONE_LOADED)?.used, 93);
@@ -138,7 +112,7 @@ fn bounds_follow_from_those_written(rt: HostRuntime) -> Result<(), Fail> {
 fn a_cycle_below_zero_is_refused_at_the_end(rt: HostRuntime) -> Result<(), Fail> {
     assert_eq!(rt; limits_with(b"bound\t1\t2\t3\nbound\t2\t1\t-3")?, 2);
     let text = with_line(b"bound\t1\t2\t3\nbound\t2\t1\t-4");
-    refused(&rt, &text, Cause::Contradictory, 6, 0)?;
+    refused(&rt, &text, Cause::Contradictory, 6, 0);
     let fault = Place { line: 6, field: 0 }.fault(Cause::Contradictory);
     assert_eq!(rt; faulty_line(&text, &fault), b"end".as_slice());
     Ok(())
@@ -156,88 +130,89 @@ fn variables_and_bounds_are_counted(rt: HostRuntime) -> Result<(), Fail> {
         Cause::TooMany,
         10,
         0,
-    )?;
-    refused(&rt, b"chronicle\t1\nend\n", Cause::TooMany, 2, 0)?;
+    );
+    refused(&rt, b"chronicle\t1\nend\n", Cause::TooMany, 2, 0);
     let mut text = [b'.'; 1024];
     let _ = put_lines(&mut text, b"bound\t1\t2\t5", 64);
     assert_eq!(rt; in_ticks(&text, &NONE_LOADED)?.limits, 64);
     let _ = put_lines(&mut text, b"bound\t1\t2\t5", 65);
-    refused(&rt, &text, Cause::TooMany, 68, 0)
+    refused(&rt, &text, Cause::TooMany, 68, 0);
+    Ok(())
 }
 
 #[test]
-fn a_bound_is_between_two_variables_above_it(rt: HostRuntime) -> Result<(), Fail> {
+fn a_bound_is_between_two_variables_above_it(rt: HostRuntime) {
     lines_refused(
         &rt,
         b"bound\t1\t3\t5\nvar\tC/bound\t3\t1\t5\nvar\tC/bound\t1\t1\t5",
         Cause::BadPair,
         0,
-    )
+    );
 }
 
 #[test]
 fn a_loaded_slot_is_refused(rt: HostRuntime) -> Result<(), Fail> {
     let mut loaded = NONE_LOADED;
-    load(&mut loaded, 3);
+    loaded.load(3);
     has_fault(
         &rt,
         in_ticks(b"chronicle\t3\nvar\tA\nend\n", &loaded),
         Cause::SlotLoaded,
         1,
         2,
-    )?;
+    );
     assert_eq!(rt; in_ticks(b"chronicle\t4\nvar\tA\nend\n", &loaded)?.slot, 4);
     Ok(())
 }
 
 #[test]
-fn a_text_may_stop_too_early(rt: HostRuntime) -> Result<(), Fail> {
-    refused(&rt, b"", Cause::Unfinished, 1, 0)?;
-    refused(&rt, b"chronicle\t1\nvar\tA\n", Cause::Unfinished, 3, 0)?;
-    refused(&rt, b"chronicle\t1\nvar\tA\nend", Cause::BadLine, 3, 0)
+fn a_text_may_stop_too_early(rt: HostRuntime) {
+    refused(&rt, b"", Cause::Unfinished, 1, 0);
+    refused(&rt, b"chronicle\t1\nvar\tA\n", Cause::Unfinished, 3, 0);
+    refused(&rt, b"chronicle\t1\nvar\tA\nend", Cause::BadLine, 3, 0);
 }
 
 #[test]
-fn a_line_has_its_word_and_number_of_fields(rt: HostRuntime) -> Result<(), Fail> {
-    refused(&rt, b"var\tA\n", Cause::BadLine, 1, 0)?;
-    refused(&rt, b"chronicle\t1\t2\n", Cause::BadLine, 1, 0)?;
+fn a_line_has_its_word_and_number_of_fields(rt: HostRuntime) {
+    refused(&rt, b"var\tA\n", Cause::BadLine, 1, 0);
+    refused(&rt, b"chronicle\t1\t2\n", Cause::BadLine, 1, 0);
     lines_refused(
         &rt,
         b"/chronicle\t2/Var\tC/var/var\tC\t/bound\t1\t2/bound\t1\t2\t5\t6/end\t",
         Cause::BadLine,
         0,
-    )?;
+    );
     // 81 bytes, then 80
     line_refused(
         &rt,
         b"var\t7777777777777777777777777777777777777777777777777777777777777777777777777777X",
         Cause::BadLine,
         0,
-    )?;
+    );
     line_refused(
         &rt,
         b"var\t7777777777777777777777777777777777777777777777777777777777777777777777777777",
         Cause::BadField,
         2,
-    )
+    );
 }
 
 #[test]
-fn a_bad_field_is_named(rt: HostRuntime) -> Result<(), Fail> {
-    refused(&rt, b"chronicle\t9\n", Cause::BadField, 1, 2)?;
+fn a_bad_field_is_named(rt: HostRuntime) {
+    refused(&rt, b"chronicle\t9\n", Cause::BadField, 1, 2);
     lines_refused(
         &rt,
         b"var\t/var\tC\r/var\t\0/var\t\xc3/bound\t0\t9\tx/bound\t+1\t2\t5",
         Cause::BadField,
         2,
-    )?;
-    lines_refused(&rt, b"bound\t1\t9\tx/bound\t1\t\t5", Cause::BadField, 3)?;
+    );
+    lines_refused(&rt, b"bound\t1\t9\tx/bound\t1\t\t5", Cause::BadField, 3);
     lines_refused(
         &rt,
         b"bound\t1\t1\t-0/bound\t1\t2\t007/bound\t1\t2\t+1/bound\t1\t2\t/bound\t1\t2\t5\r/bound\t1\t2\t5\0/bound\t1\t2\t\xb2",
         Cause::BadField,
         4,
-    )
+    );
 }
 
 #[test]
@@ -251,7 +226,8 @@ fn a_bound_goes_up_to_its_limit(rt: HostRuntime) -> Result<(), Fail> {
         b"bound\t1\t2\t4294967297/bound\t1\t2\t-4294967297/bound\t1\t2\t9999999999999999999999",
         Cause::BadField,
         4,
-    )
+    );
+    Ok(())
 }
 
 #[test]
@@ -263,19 +239,20 @@ fn the_bound_of_a_pair_has_two_fields(rt: HostRuntime) -> Result<(), Fail> {
         Cause::BadField,
         4,
         4,
-    )?;
+    );
     has_fault(
         &rt,
         in_pairs(&with_line(b"bound\t1\t2\t5")),
         Cause::BadLine,
         4,
         0,
-    )
+    );
+    Ok(())
 }
 
 #[test]
-fn a_table_has_64_entries(rt: HostRuntime) -> Result<(), Fail> {
+fn a_table_has_64_entries(rt: HostRuntime) {
     let mut table = [Bound::NoBound; 63];
     let r = read::<Ticks>(b"chronicle\t1\nvar\tA\nend\n", &NONE_LOADED, &mut table);
-    has_fault(&rt, r, Cause::ShortMemory, 0, 0)
+    has_fault(&rt, r, Cause::ShortMemory, 0, 0);
 }

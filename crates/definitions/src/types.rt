@@ -5,6 +5,11 @@ use text::name::Name;
 
 mod methods;
 
+/// The refusal of a ninth type name.
+#[derive(Clone, Copy, Debug, PartialEq, Eq)]
+pub struct TypesFull;
+
+// A list of the library's own would take memory: the names fill a fixed array from the front.
 #[derive(Clone, Copy)]
 pub struct Types {
     names: [Option<Name>; 8],

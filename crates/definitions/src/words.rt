@@ -1,8 +1,8 @@
 // The words that begin the lines of a definition.
 ghost use Rattle.std.specs.Prelude.{◌≡◌, ℕ, ◌==◌};
-ghost use Rattle.std.specs.Str.{bytes_eq};
 ghost use Rattle.definitions.specs.Lines.{word_at, fields_of};
 
+use kinds::behind::has_fields_behind;
 use kinds::kind::Kind;
 
 #[derive(Clone, Copy, Debug, PartialEq, Eq)]
@@ -13,30 +13,17 @@ pub enum Word {
     End,
 }
 
-fn spells(field: &[u8], word: &[u8]) -> bool
-    ensures { result ≡ bytes_eq field.now word.now }
-{
-    field == word
-}
-
 // The word of line `number`: the first line, and no other, begins a definition.
 pub fn word_at(number: usize, field: &[u8]) -> Option<Word>
     ensures { result ≡ word_at number field.now }
 {
     if number == 1 {
-        return if spells(field, b"chronicle") {
-            Some(Word::Chronicle)
-        } else {
-            None
-        };
-    }
-    if spells(field, b"var") {
-        return Some(Word::Var);
-    }
-    if spells(field, b"bound") {
-        return Some(Word::Bound);
-    }
-    if spells(field, b"end") {
+        (field == b"chronicle".as_slice()).then_some(Word::Chronicle)
+    } else if field == b"var".as_slice() {
+        Some(Word::Var)
+    } else if field == b"bound".as_slice() {
+        Some(Word::Bound)
+    } else if field == b"end".as_slice() {
         Some(Word::End)
     } else {
         None
@@ -49,7 +36,7 @@ pub fn has_fields<K: Kind>(word: Word, count: usize) -> bool
 {
     match word {
         Word::Chronicle | Word::Var => count == 2,
-        Word::Bound => count >= 3 && count - 3 == K::field_count(),
+        Word::Bound => has_fields_behind::<K>(3, count),
         Word::End => count == 1,
     }
 }

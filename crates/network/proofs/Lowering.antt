@@ -1,29 +1,15 @@
 -- What a write to one bound of a table leaves.
-use Rattle.std.proofs.Common.{◌≡◌, ℕ, ◌+◌, ◌<◌, ◌≤◌, true, false, List, ◌++◌, ◌-◌, length, get_or, set, drop, replicate, sym, refl, ap, ◌∙◌, subst, ⊎_elim, arith}
+use Rattle.std.proofs.Common.{◌≡◌, ℕ, ◌+◌, ◌<◌, ◌≤◌, List, ◌++◌, ◌-◌, length, get_or, drop, replicate, sym, ap, ◌∙◌, subst, ⊎_elim, arith}
 use Rattle.std.proofs.lemmas.Bool.{cases_lt}
-use Rattle.std.proofs.lemmas.List.{get_or-set_same, get_or-set_other, get_or_append_left, get_or-append_right, get_or-replicate, get_or-drop, length-replicate}
+use Rattle.std.proofs.lemmas.List.{get_or_append_left, get_or-append_right, get_or-replicate, get_or-drop, length-replicate}
 use Rattle.kinds.specs.Ordered.{Ordered}
-use Rattle.kinds.specs.Bounds.{join, at_most, weighs, meant}
+use Rattle.kinds.specs.Bounds.{join, weighs, meant}
 use Rattle.kinds.specs.declared.bound.Bound.{Bound}
 use Rattle.kinds.specs.declared.bound.Bound.TheVariants.{NoBound}
 use Rattle.network.specs.Tables.{cell, entry}
 use Rattle.network.specs.Steps.{Lesser, Tightened, Emptied, Relaxed}
-use Rattle.network.proofs.Order.{lesser_first, lesser_second}
-
-module _ {K G : Type 0} (O : Ordered G) (value : K → G) (i j : ℕ) (i<8 : i < 8) (j<8 : j < 8) (other : Bound K) where
-  pub lowered : (t : List (Bound K)) → 64 ≤ length t → at_most O (entry value t i j) (meant value other) ≡ false → Tightened O value i j other t (set t (cell i j) other)
-  lowered t long h = record {
-    lesser = subst (Lesser O (entry value t i j) (meant value other)) (ap (meant value) (sym (get_or-set_same t (cell i j) other NoBound (omega arith)))) (lesser_second O h);
-    kept = λ c ne. get_or-set_other t (cell i j) c other NoBound ne;
-  }
-
-  pub left : (t : List (Bound K)) → at_most O (entry value t i j) (meant value other) ≡ true → Tightened O value i j other t t
-  left t h = record { lesser = lesser_first O h; kept = λ c ne. refl }
 
 module _ {K G : Type 0} (O : Ordered G) (value : K → G) (weight : G → ℕ) (i k : ℕ) (i<8 : i < 8) (k<8 : k < 8) (i≢k : i ≡ k → ⊥) where
-  pub relaxed_none : (t : List (Bound K)) → Relaxed O value weight i k 0 t t
-  relaxed_none t = record { lowered = λ j h. absurd (omega arith); kept = λ c ne. refl }
-
   module _ (j : ℕ) (j<8 : j < 8) (t u : List (Bound K)) (sofar : Relaxed O value weight i k j t u) where
     -- the bound from k to j, and that from i to j, are still those of t
     pub from_k : entry value u k j ≡ entry value t k j

@@ -1,9 +1,9 @@
 -- The order and the sums of bounds.
-use Rattle.std.proofs.Common.{◌≡◌, true, false, ◌⊎◌, refl, ap, ◌∙◌, subst, inl, inr, ⊎_elim}
-use Rattle.std.proofs.lemmas.Bool.{false≢true, both_ways}
+use Rattle.std.proofs.Common.{◌≡◌, true, refl, ap, ◌∙◌, subst}
+use Rattle.std.proofs.lemmas.Bool.{false≢true}
 use Rattle.kinds.specs.Ordered.{Ordered}
 use Rattle.kinds.specs.Bounds.{join, at_most}
-use Rattle.network.specs.Steps.{Under, Lesser}
+use Rattle.network.specs.Steps.{Under}
 use Rattle.kinds.specs.declared.bound.Bound.{Bound}
 use Rattle.kinds.specs.declared.bound.Bound.TheVariants.{At, NoBound}
 
@@ -39,12 +39,6 @@ module _ {G : Type 0} (O : Ordered G) where
       go NoBound NoBound (At z) h k = k
       go NoBound NoBound NoBound h k = refl
 
-  pub under_total : (a b : Bound G) → Under O a b ⊎ Under O b a
-  under_total (At x) (At y) = ⊎_elim (λ h. inl (under h)) (λ h. inr (under h)) (O.leq_total x y)
-  under_total (At x) NoBound = inl (under refl)
-  under_total NoBound (At y) = inr (under refl)
-  under_total NoBound NoBound = inl (under refl)
-
   pub under_none : (a : Bound G) → Under O a NoBound
   under_none (At x) = under refl
   under_none NoBound = under refl
@@ -58,13 +52,6 @@ module _ {G : Type 0} (O : Ordered G) where
       go (At x) (At y) (At z) (At w) h k = under (plus_mono x y z w h k)
       go (At x) (At y) NoBound (At w) h k = absurd (false≢true k)
       go NoBound (At y) c (At w) h k = absurd (false≢true h)
-
-  -- a test decides which of two is the lesser
-  pub lesser_first : {a b : Bound G} → at_most O a b ≡ true → Lesser O a b a
-  lesser_first {a} h = record { one_of = inl refl; first = under_refl a; second = under h }
-
-  pub lesser_second : {a b : Bound G} → at_most O a b ≡ false → Lesser O a b b
-  lesser_second {a} {b} h = record { one_of = inr refl; first = ⊎_elim (λ u. absurd (both_ways _ h u.is)) (λ u. u) (under_total a b); second = under_refl b }
 
   pub join_assoc : (a b c : Bound G) → join O (join O a b) c ≡ join O a (join O b c)
   join_assoc (At x) (At y) (At z) = ap At (O.plus_assoc x y z)

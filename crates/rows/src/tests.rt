@@ -19,8 +19,8 @@ fn count_of(bound: Bound<Ticks>) -> Option<i64> {
 
 // The second of three variables at most 6 after the first, the third at least 1 before the second.
 fn jump(rt: &impl Abort, table: &mut [Bound<Ticks>]) -> Result<(), Fail> {
-    assert!(rt; tighten(table, 0, 1, Bound::At(Ticks { count: 6 })));
-    assert!(rt; tighten(table, 1, 2, Bound::At(Ticks { count: -1 })));
+    assert_eq!(rt; tighten(table, 0, 1, Bound::At(Ticks { count: 6 })), Ok(()));
+    assert_eq!(rt; tighten(table, 1, 2, Bound::At(Ticks { count: -1 })), Ok(()));
     close(table, 3)?;
     Ok(())
 }
@@ -136,8 +136,8 @@ fn an_event_fails_where_an_open_variable_had_to_come_before(rt: HostRuntime) -> 
 #[test]
 fn an_event_fails_below_the_lower_bound_of_a_filled_pair(rt: HostRuntime) -> Result<(), Fail> {
     let mut table = [Bound::NoBound; 64];
-    assert!(rt; tighten(&mut table, 0, 1, Bound::At(Pairs { tick: 3, place: 0 })));
-    assert!(rt; tighten(&mut table, 1, 0, Bound::At(Pairs { tick: 0, place: -1 })));
+    tighten(&mut table, 0, 1, Bound::At(Pairs { tick: 3, place: 0 }))?;
+    tighten(&mut table, 1, 0, Bound::At(Pairs { tick: 0, place: -1 }))?;
     close(&mut table, 2)?;
     let stamps = [Pairs { tick: 7, place: 4 }; 8];
     let filled = Filled::none().with(0);

@@ -33,7 +33,7 @@ fn read_into<K: Kind>(
     requires eight { slot ≤ 8 }
     requires room { 512 ≤ length entries.old }
     ensures within { IfOk result (λ x. (0 < x.used) × (x.used ≤ length text.now)) }
-    ensures reads { Reads K.group K.value (reading_of K.fields K.means K.bound loaded.now text.now) (slot_table slot entries.new) result }
+    ensures reads { Reads K.group K.value (reading_of K.fields K.means K.bound loaded.now.0 text.now) (slot_table slot entries.new) result }
     ensures light { IfOk result (λ x. Light K.value K.weight (length (type_names x.types)) 256 (slot_table slot entries.new)) }
     ensures others { OthersKept slot entries.old entries.new }
     ensures memory { length entries.new ≡ length entries.old }

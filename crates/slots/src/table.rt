@@ -54,9 +54,9 @@ impl Slots {
 
     // Which of the slots are loaded, as a definition's reader asks it.
     pub fn loaded(&self) -> Loaded
-        ensures { result ≡ loaded_in self.now }
+        ensures { result.0 ≡ loaded_in self.now }
     {
-        from_fn(|i| self.is_loaded(i + 1))
+        Loaded(from_fn(|i| self.is_loaded(i + 1)))
     }
 
     // Loads a slot with a chronicle's variables; outside 1 to 8 there is none to load.

@@ -1,9 +1,9 @@
 // Type names are added one by one, and read by the variable's number.
-ghost use Rattle.std.specs.Prelude.{◌≡◌, ℕ, ◌<◌, ◌≤◌, true, [], ◌∷◌, ◌++◌, length, if◌then◌else◌, MatchOption, nat_lt, slice_index_or};
+ghost use Rattle.std.specs.Prelude.{◌≡◌, ℕ, ◌<◌, ◌≤◌, true, [], ◌∷◌, ◌++◌, length, if◌then◌else◌, is_ok, MatchOption, nat_lt, slice_index_or};
 ghost use Rattle.text.specs.Spelled.{spelled};
 ghost use Rattle.definitions.specs.TypeNames.{type_names};
 
-use super::Types;
+use super::{Types, TypesFull};
 use text::name::Name;
 
 impl Types {
@@ -22,17 +22,17 @@ impl Types {
         self.count
     }
 
-    // One more name; false, with nothing changed, where there are eight.
-    pub fn push(&mut self, name: Name) -> bool
-        ensures room { result ≡ nat_lt (length (type_names self.old)) 8 }
-        ensures after { type_names self.new ≡ (if result then type_names self.old ++ (spelled name ∷ []) else type_names self.old) }
+    // One more name; where there are eight, they stay.
+    pub fn push(&mut self, name: Name) -> Result<(), TypesFull>
+        ensures room { is_ok result ≡ nat_lt (length (type_names self.old)) 8 }
+        ensures after { type_names self.new ≡ (if is_ok result then type_names self.old ++ (spelled name ∷ []) else type_names self.old) }
     {
         if self.count >= 8 {
-            return false;
+            return Err(TypesFull);
         }
         self.names[self.count] = Some(name);
         self.count += 1;
-        true
+        Ok(())
     }
 
     // The type name of variable i, counted from 0.

@@ -8,10 +8,10 @@ use Rattle.definitions.proofs.reader.read_lines.Given as goal
 
 abbrev pub invariant-lines : goal.invariant-lines
 invariant-lines g l = let m = g.K.Kind in
-    (l.used ≤ length l.text) × (l.number ≤ l.used + 1) × Beyond l.initial.table l.table
-    × (Empty m.group m.value l.initial.table →
-    (d : Chronicle m.G) × Drafted m.group m.value m.bound l.draft l.table d
-    × (read_from m.fields m.means m.bound l.loaded l.number l.used d (split 10 (drop l.used l.text)) ≡ read_from m.fields m.means m.bound l.loaded 1 0 blank (split 10 l.text)))
+    (l.used ≤ length l.text) × (l.number ≤ l.used + 1) × (l.draft.table.ghost_name ≡ l.initial.draft.table.ghost_name) × Beyond l.initial.draft.table.now l.draft.table.now
+    × (Empty m.group m.value l.initial.draft.table.now →
+    (d : Chronicle m.G) × Drafted m.group m.value m.bound l.draft d
+    × (read_from m.fields m.means m.bound l.loaded.0 l.number l.used d (split 10 (drop l.used l.text)) ≡ read_from m.fields m.means m.bound l.loaded.0 1 0 blank (split 10 l.text)))
 
 abbrev pub decreases-lines : goal.decreases-lines
 decreases-lines g l = length l.text - l.used

@@ -1,6 +1,5 @@
-use Rattle.std.proofs.Common.{◌≡◌, ◌<◌, ap, subst, arith}
+use Rattle.std.proofs.Common.{◌<◌, ap, arith}
 use Rattle.kinds.specs.declared.bound.Bound.TheVariants.{At}
-use Rattle.network.specs.Steps.{Grounded}
 use Rattle.network.proofs.Turns.{grounded_more}
 use Rattle.network.proofs.closing.ground.Goals as goal
 
@@ -10,8 +9,3 @@ loop-d-preserved g c =
     let h : c.loop-d.d < 8 = omega arith in
     grounded_more m.group m.value c.loop-d.d h c.args.table.now c.loop-d.table c.lower.new.table (At c.zero.result) c.loop-d.invariant c.lower.ensures (ap At c.zero.ensures)
 
-pub returns : goal.returns
-returns g c =
-    let m = g.K.Kind in
-    let e : c.loop-d.d ≡ c.args.width = omega arith in
-    subst (λ n. Grounded m.group m.value n c.args.table.now c.loop-d.table) e c.loop-d.invariant

@@ -1,4 +1,4 @@
-use Rattle.std.proofs.Common.{◌≡◌, ◌+◌, ◌<◌, ◌≤◌, sym, subst, arith}
+use Rattle.std.proofs.Common.{◌+◌, ◌<◌, ◌≤◌, sym, subst, arith}
 use Rattle.network.specs.Steps.{Rounding}
 use Rattle.network.proofs.Turns.{rounding_skip, rounding_more}
 use Rattle.network.proofs.closing.relax.Goals as goal
@@ -19,9 +19,3 @@ loop-i-preserved g c =
       | then-i-k w ↦ subst Goal (sym w.table-is) (rounding_more m.group m.value m.weight n k i n≤8 k<n i<n t c.loop-i.table w.relax_row.new.table c.loop-i.invariant w.if-i-k.true w.relax_row.ensures)
       | else-i-k w ↦ subst Goal (sym w.table-is) (rounding_skip m.group m.value m.weight n k i n≤8 k<n i<n t c.loop-i.table t c.loop-i.invariant w.if-i-k.false)
     ]
-
-pub returns : goal.returns
-returns g c =
-    let m = g.K.Kind in
-    let e : c.loop-i.i ≡ c.args.width = omega arith in
-    subst (λ n. Rounding m.group m.value m.weight c.args.width c.args.k n c.args.table.now c.loop-i.table) e c.loop-i.invariant

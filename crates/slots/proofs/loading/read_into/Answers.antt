@@ -22,7 +22,7 @@ returns g c =
     record {
       within = c.read.ensures.within;
       light = subst (λ t. IfOk c.read.result (λ x. Light m.value m.weight (length (type_names x.types)) 256 t)) is_part c.read.ensures.light;
-      reads = subst (λ t. Loads m.group m.value (reading_of m.fields m.means m.bound c.args.loaded.now c.args.text.now) t c.read.result)
+      reads = subst (λ t. Loads m.group m.value (reading_of m.fields m.means m.bound c.args.loaded.now.0 c.args.text.now) t c.read.result)
           is_part (when_long _ _ (length (take k (drop start xs))) (omega (arith, part)) c.read.ensures.loads);
       others = others_kept s start k xs ys refl whole c.requires.one room long;
       memory = memory_kept s start k xs ys refl whole c.requires.one room long;
