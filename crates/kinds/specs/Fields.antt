@@ -1,5 +1,5 @@
 -- Elements as text: which element fields mean, and the text that is written of one.
-use Rattle.std.specs.Prelude.{◌≡◌, ℕ, ◌<◌, List, [], ◌∷◌, ◌++◌, length, ℤ, pos, negsuc, Some, None, Ok, Err, Option, Result, refl}
+use Rattle.std.specs.Prelude.{◌≡◌, ℕ, ◌<◌, Bool, cond, List, [], ◌∷◌, ◌++◌, length, ℤ, pos, negsuc, Some, None, Ok, Err, Option, Result, refl}
 use Rattle.std.proofs.Common.{arith}
 use Rattle.std.specs.Fmt.{signed_decimal}
 use Rattle.text.specs.declared.fault.Fault.{Fault}
@@ -10,6 +10,11 @@ use Rattle.kinds.specs.PairOrder.{Pair, pair}
 abbrev pub Reads : {K G : Type 0} → (K → G) → Option G → Fault → Result K Fault → Type 0
 Reads value meant fault (Ok k) = meant ≡ Some (value k)
 Reads value meant fault (Err f) = (meant ≡ None) × (f ≡ fault)
+
+-- an element that passes the test
+abbrev pub admitted : {G : Type 0} → (G → Bool) → Option G → Option G
+admitted test None = None
+admitted test (Some x) = cond (test x) (Some x) None
 
 -- an element takes one field or more, and only so many mean one
 pub record Takes {G : Type 0} (fields : ℕ) (means : List (List ℕ) → Option G) : Type 0 where

@@ -4,7 +4,7 @@ ghost use Rattle.kinds.specs.Bounds.{join, at_most, admits, weighs, meant};
 
 use crate::kind::Kind;
 
-#[derive(Clone, Copy)]
+#[derive(Clone, Copy, Debug, PartialEq, Eq)]
 pub enum Bound<K> {
     At(K),
     NoBound,
@@ -14,6 +14,7 @@ impl<K: Kind> Bound<K> {
     pub fn at_most(&self, other: &Bound<K>) -> bool
         ensures { result ≡ at_most K.group (meant K.value self.now) (meant K.value other.now) }
     {
+        // A kind is ordered by its own `at_most`, and a derive would ask more of it.
         match (self, other) {
             (_, Bound::NoBound) => true,
             (Bound::NoBound, Bound::At(_)) => false,
@@ -38,9 +39,6 @@ impl<K: Kind> Bound<K> {
         let (Bound::At(x), Bound::At(y)) = (self, other) else {
             return Some(Bound::NoBound);
         };
-        match x.plus(y) {
-            Some(sum) => Some(Bound::At(sum)),
-            None => None,
-        }
+        x.plus(y).map(Bound::At)
     }
 }

@@ -8,7 +8,7 @@ use crate::ticks::{BOUND_LIMIT, STAMP_LIMIT};
 use text::fault::{Cause, Fault, Place};
 use text::parts;
 
-#[derive(Clone, Copy)]
+#[derive(Clone, Copy, Debug, PartialEq, Eq, PartialOrd, Ord)]
 pub struct Pairs {
     pub tick: i64,
     pub place: i64,
@@ -45,19 +45,16 @@ impl Kind for Pairs {
     }
 
     fn at_most(&self, other: &Pairs) -> bool {
-        self.tick < other.tick || (self.tick <= other.tick && self.place <= other.place)
+        self <= other
     }
 
     fn is_bound(&self) -> bool {
-        let tick = -BOUND_LIMIT <= self.tick && self.tick <= BOUND_LIMIT;
-        let place = -BOUND_LIMIT <= self.place && self.place <= BOUND_LIMIT;
-        tick && place
+        (-BOUND_LIMIT..=BOUND_LIMIT).contains(&self.tick)
+            && (-BOUND_LIMIT..=BOUND_LIMIT).contains(&self.place)
     }
 
     fn is_stamp(&self) -> bool {
-        let tick = 0 <= self.tick && self.tick <= STAMP_LIMIT;
-        let place = 0 <= self.place && self.place <= LAST_PLACE;
-        tick && place
+        (0..=STAMP_LIMIT).contains(&self.tick) && (0..=LAST_PLACE).contains(&self.place)
     }
 
     fn plus(&self, other: &Pairs) -> Option<Pairs> {

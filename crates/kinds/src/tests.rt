@@ -1,4 +1,5 @@
 // Elements at the edges of what is admitted, added, read and written.
+use crate::behind::{has_fields_behind, read_behind};
 use crate::bound::Bound;
 use crate::kind::Kind;
 use crate::pairs::Pairs;
@@ -45,22 +46,13 @@ fn stamps_reach_from_0_to_1099511627776(rt: HostRuntime) {
 }
 
 #[test]
-fn sums_are_exact_or_absent(rt: HostRuntime) -> Result<(), Fail> {
+fn sums_are_exact_or_absent(rt: HostRuntime) {
     assert!(rt; ticks(i64::MAX).plus(&ticks(1)).is_none());
     assert!(rt; ticks(i64::MIN).plus(&ticks(-1)).is_none());
-    assert_eq!(rt;
-        ticks(i64::MAX)
-            .plus(&ticks(i64::MIN))
-            .ok_or("absent")?
-            .count,
-        -1
-    );
+    assert_eq!(rt; ticks(i64::MAX).plus(&ticks(i64::MIN)), Some(ticks(-1)));
     assert!(rt; pair(i64::MIN, 0).plus(&pair(-1, 0)).is_none());
     assert!(rt; pair(0, i64::MAX).plus(&pair(0, 1)).is_none());
-    let sum = pair(7, -5).plus(&pair(1, 2)).ok_or("absent")?;
-    assert_eq!(rt; sum.tick, 8);
-    assert_eq!(rt; sum.place, -3);
-    Ok(())
+    assert_eq!(rt; pair(7, -5).plus(&pair(1, 2)), Some(pair(8, -3)));
 }
 
 #[test]
@@ -73,7 +65,7 @@ fn pairs_go_by_tick_then_place(rt: HostRuntime) {
 }
 
 #[test]
-fn no_bound_lies_above_all(rt: HostRuntime) -> Result<(), Fail> {
+fn no_bound_lies_above_all(rt: HostRuntime) {
     let far = Bound::At(ticks(i64::MAX));
     let none = Bound::NoBound;
     assert!(rt; far.at_most(&none));
@@ -82,28 +74,20 @@ fn no_bound_lies_above_all(rt: HostRuntime) -> Result<(), Fail> {
     assert!(rt; none.is_admitted());
     assert!(rt; !far.is_admitted());
     assert!(rt; far.plus(&far).is_none());
-    match far.plus(&none) {
-        Some(Bound::NoBound) => Ok(()),
-        _ => {
-            assert!(rt; false);
-            Ok(())
-        },
-    }
+    assert_eq!(rt; far.plus(&none), Some(none));
 }
 
 #[test]
 fn fields_are_read_in_full(rt: HostRuntime) -> Result<(), Fail> {
     assert_eq!(rt; Ticks::field_count(), 1);
     assert_eq!(rt;
-        Ticks::read(b"-9223372036854775808", PLACE)?.count,
-        i64::MIN
+        Ticks::read(b"-9223372036854775808", PLACE)?,
+        ticks(i64::MIN)
     );
     bad_field(&rt, Ticks::read(b"-9223372036854775809", PLACE));
     bad_field(&rt, Ticks::read(b"1\t2", PLACE));
     assert_eq!(rt; Pairs::field_count(), 2);
-    let read = Pairs::read(b"12\t-3", PLACE)?;
-    assert_eq!(rt; read.tick, 12);
-    assert_eq!(rt; read.place, -3);
+    assert_eq!(rt; Pairs::read(b"12\t-3", PLACE)?, pair(12, -3));
     bad_field(&rt, Pairs::read(b"12", PLACE));
     bad_field(&rt, Pairs::read(b"12\t-03", PLACE));
     bad_field(&rt, Pairs::read(b"12\t-3\t", PLACE));
@@ -121,4 +105,17 @@ fn fields_are_written_where_they_fit(rt: HostRuntime) {
     assert_eq!(rt; ticks(0).write(&mut out, 42), Some(43));
     assert_eq!(rt; pair(12, -3).write(&mut out, 0), Some(5));
     assert_eq!(rt; &out, b"12\t-33372036854775808\t-92233720368547758080");
+}
+
+#[test]
+fn elements_stand_behind_other_fields(rt: HostRuntime) {
+    assert!(rt; has_fields_behind::<Pairs>(2, 4));
+    assert!(rt; !has_fields_behind::<Pairs>(2, 3));
+    assert!(rt; !has_fields_behind::<Ticks>(2, 1));
+    assert_eq!(rt;
+        read_behind(b"bound\t1\t2\t-7", 3, PLACE, Ticks::is_bound),
+        Ok(ticks(-7))
+    );
+    bad_field(&rt, read_behind(b"A\t1\t-7", 2, PLACE, Ticks::is_stamp));
+    bad_field(&rt, read_behind(b"A\t1", 2, PLACE, Ticks::is_stamp));
 }

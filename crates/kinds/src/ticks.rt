@@ -9,7 +9,7 @@ use crate::kind::Kind;
 use text::fault::{Cause, Fault, Place};
 use text::parts;
 
-#[derive(Clone, Copy)]
+#[derive(Clone, Copy, Debug, PartialEq, Eq, PartialOrd, Ord)]
 pub struct Ticks {
     pub count: i64,
 }
@@ -47,22 +47,20 @@ impl Kind for Ticks {
     }
 
     fn at_most(&self, other: &Ticks) -> bool {
-        self.count <= other.count
+        self <= other
     }
 
     fn is_bound(&self) -> bool {
-        -BOUND_LIMIT <= self.count && self.count <= BOUND_LIMIT
+        (-BOUND_LIMIT..=BOUND_LIMIT).contains(&self.count)
     }
 
     fn is_stamp(&self) -> bool {
-        0 <= self.count && self.count <= STAMP_LIMIT
+        (0..=STAMP_LIMIT).contains(&self.count)
     }
 
     fn plus(&self, other: &Ticks) -> Option<Ticks> {
-        match self.count.checked_add(other.count) {
-            Some(count) => Some(Ticks { count }),
-            None => None,
-        }
+        let count = self.count.checked_add(other.count)?;
+        Some(Ticks { count })
     }
 
     fn field_count() -> usize {
