@@ -1,5 +1,5 @@
 -- Why a merge interleaves its sources, and keeps stamps from falling.
-use Rattle.std.proofs.Common.{◌≡◌, ℕ, Bool, true, false, List, [], ◌∷◌, ◌++◌, Ok, Err, refl, inl, inr, arith}
+use Rattle.std.proofs.Common.{◌≡◌, Bool, true, false, List, [], ◌∷◌, ◌++◌, Ok, Err, refl, inl, inr}
 use Rattle.kinds.specs.Ordered.{Ordered}
 use Rattle.logs.specs.Endings.{Ending, clean_end}
 use Rattle.logs.specs.Events.{Event}
