@@ -8,7 +8,7 @@ use Rattle.std.proofs.lemmas.List.Sorted.{IsPermutation-cons, IsPermutation-tran
 use Rattle.kinds.specs.declared.kind.Kind.{Ghosts as Meaning}
 use Rattle.forks.specs.declared.row.Row.{Row}
 use Rattle.queue.specs.declared.heap.Heap.{Heap}
-use Rattle.queue.specs.declared.heap.Full.{Full}
+use Rattle.lent.specs.declared.list.Full.{Full}
 use Rattle.queue.specs.Heaps.{Heaped}
 use Rattle.queue.specs.Held.{memory, held, Stores}
 use Rattle.queue.proofs.Calls.{accepted}

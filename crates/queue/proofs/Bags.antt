@@ -1,10 +1,10 @@
 -- How the calls of a heap change its bag and keep its order.
-use Rattle.std.proofs.Common.{◌≡◌, ℕ, zero, suc, ◌+◌, ◌-◌, ◌/◌, ◌<◌, ◌≤◌, Bool, true, List, [], ◌∷◌, ◌++◌, length, get_or, take, drop, set, Some, None, Option, sym, refl, ap, ◌∙◌, subst, ⊎_elim, arith}
+use Rattle.std.proofs.Common.{◌≡◌, ℕ, zero, suc, ◌+◌, ◌-◌, ◌/◌, ◌<◌, ◌≤◌, Bool, true, List, [], ◌∷◌, ◌++◌, length, get_or, take, set, Some, Option, sym, refl, ap, ◌∙◌, subst, ⊎_elim, arith}
 use Rattle.std.specs.List.Sorted.{IsPermutation}
 use Rattle.std.proofs.lemmas.Bool.{cases_eq}
 use Rattle.std.proofs.ByRecursion.{All-from_get_or}
 use Rattle.std.proofs.lemmas.List.Sorted.{IsPermutation-cons, IsPermutation-trans, IsPermutation-sym, IsPermutation-to_front, IsPermutation-swap_remove}
-use Rattle.std.proofs.lemmas.List.{length_push, length-take-le, length-set, length-drop, take_at, get_or-take, get_or-drop, get_or-set_other, nil_from_length}
+use Rattle.std.proofs.lemmas.List.{length_push, length-take-le, length-set, take_at, get_or-take, get_or-set_other}
 use Rattle.queue.specs.Ranks.{Ranks}
 use Rattle.queue.specs.Heaps.{Heaped, HeapedFrom, first, Leads}
 use Rattle.queue.proofs.Order.{alike, itself}
@@ -51,25 +51,9 @@ module _ {X : Type 0} (leq : X → X → Bool) where
       led o [] was = refl
       led o (x ∷ xs) was = leads o (x ∷ xs) was x (omega arith) (λ d. refl)
 
-pub first_some : {X : Type 0} (xs : List X) (x : X) → 0 < length xs → ((d : X) → x ≡ get_or xs 0 d) → Some x ≡ first xs
-first_some [] x some is = absurd (omega arith)
-first_some (y ∷ ys) x some is = ap Some (is y)
-
-pub first_none : {X : Type 0} (xs : List X) → length xs ≡ 0 → None ≡ first xs
-first_none xs none = ap first (sym (nil_from_length xs none))
-
 pub at_first : {X : Type 0} (xs : List X) (x : X) → Some x ≡ first xs → (d : X) → x ≡ get_or xs 0 d
 at_first [] x is d = let z : ◌≡◌ {A = ℕ} 0 1 = cc in absurd (omega arith)
 at_first (y ∷ ys) x is d = cc
-
--- the element at i is the first of what is left from there on
-pub first_some_at : {X : Type 0} (i : ℕ) (xs : List X) (x : X) → i < length xs → ((d : X) → x ≡ get_or xs i d) → Some x ≡ first (drop i xs)
-first_some_at i xs x inside is =
-    let here : i + 0 ≡ i = omega arith in
-    first_some (drop i xs) x (simp length-drop (omega arith)) (λ d. is d ∙ sym (get_or-drop i xs 0 d ∙ ap (λ n. get_or xs n d) here))
-
-pub first_none_at : {X : Type 0} (i : ℕ) (xs : List X) → length xs ≤ i → None ≡ first (drop i xs)
-first_none_at i xs past = first_none (drop i xs) (simp length-drop (omega arith))
 
 pub removed : {X : Type 0} (xs ws : List X) (x last : X) → Some x ≡ first xs → 0 < length xs → ((d : X) → last ≡ get_or xs (length xs - 1) d) → IsPermutation (take (length xs - 1) (set xs 0 last)) ws → IsPermutation xs (x ∷ ws)
 removed xs ws x last is some is_last bag =

@@ -1,7 +1,7 @@
 -- What a caller reads off the contract of a call whose answer it does not look at.
 use Rattle.std.proofs.Common.{◌≡◌, ◌<◌, List, length, Ok, Err, Result, arith}
 use Rattle.queue.specs.declared.heap.Heap.{Heap}
-use Rattle.queue.specs.declared.heap.Full.{Full}
+use Rattle.lent.specs.declared.list.Full.{Full}
 use Rattle.queue.specs.Held.{memory, held, Stores}
 
 module _ {T U : Type 0} (h k : Heap T) (P : List T → Type 0) where

@@ -1,7 +1,7 @@
 -- The front of lent memory, and what is written there as a part.
-use Rattle.std.proofs.Common.{◌≡◌, ℕ, ◌<◌, ◌≤◌, List, ◌++◌, length, get_or, take, drop, sym, ap, ◌∙◌, ⊎_elim, arith}
+use Rattle.std.proofs.Common.{◌≡◌, ℕ, ◌≤◌, List, ◌++◌, length, take, drop, sym, ap, ◌∙◌, ⊎_elim, arith}
 use Rattle.std.proofs.lemmas.Bool.{cases_lt}
-use Rattle.std.proofs.lemmas.List.{length-take, length-take-le, length-drop, length-append, take_all, take_at, get_or-take, get_or_default, drop_all, append-nil, take-append-le}
+use Rattle.std.proofs.lemmas.List.{length-take, length-take-le, length-drop, length-append, take_all, take_at, drop_all, append-nil}
 
 -- ms holds ws after a write to its first k places
 abbrev pub written : {X : Type 0} → ℕ → List X → List X → List X
@@ -13,9 +13,6 @@ module _ {X : Type 0} (k : ℕ) (ms ws : List X) (long : length ws ≡ length (t
 
   pub length_written : length (written k ms ws) ≡ length ms
   length_written = length-append ws (drop k ms) ∙ (let part = length_part in let rest = length-drop k ms in omega arith)
-
-  pub take_written : (n : ℕ) → n ≤ k → take n (written k ms ws) ≡ take n ws
-  take_written n short = take-append-le n ws (drop k ms) (omega (arith, length_part))
 
   -- n may lie past the end of the memory
   pub front_written : (n : ℕ) → k ≡ length (take n ms) → take n (written k ms ws) ≡ ws
@@ -34,7 +31,3 @@ front k n ms is =
     (λ past. take_all k ms (omega arith) ∙ sym (take_all n ms (omega arith)))
     (λ within. let same : k ≡ n = omega arith in ap (λ m. take m ms) same)
     (cases_lt (length ms) n)
-
--- what is read of the memory at i is the element of its front there
-pub held_at : {X : Type 0} (n i : ℕ) (ms : List X) (z : X) → i < length (take n ms) → (d : X) → get_or ms i z ≡ get_or (take n ms) i d
-held_at n i ms z inside d = let e = length-take n ms in get_or_default ms i z d (omega arith) ∙ sym (get_or-take n ms i d (omega arith))

@@ -1,8 +1,7 @@
 -- An element rises in a heap, past each parent that comes after it.
-use Rattle.std.proofs.Common.{◌≡◌, ℕ, ◌+◌, ◌-◌, ◌*◌, ◌/◌, ◌<◌, ◌≤◌, Bool, true, false, List, length, get_or, take, sym, ap, ◌∙◌, ⊎_elim, arith}
+use Rattle.std.proofs.Common.{◌≡◌, ℕ, ◌+◌, ◌-◌, ◌*◌, ◌/◌, ◌<◌, ◌≤◌, Bool, true, false, List, length, get_or, take, ◌∙◌, ⊎_elim, arith}
 use Rattle.std.specs.List.Sorted.{IsPermutation}
-use Rattle.std.proofs.lemmas.List.Sorted.{IsPermutation-refl, IsPermutation-trans}
-use Rattle.std.proofs.lemmas.List.{length-take-le, get_or-take}
+use Rattle.std.proofs.lemmas.List.Sorted.{IsPermutation-trans}
 use Rattle.std.proofs.lemmas.Bool.{cases_eq}
 use Rattle.queue.specs.Ranks.{Ranks}
 use Rattle.queue.specs.Heaps.{Heaped}
@@ -22,56 +21,30 @@ module _ {X : Type 0} (leq : X → X → Bool) where
     pub shuffled : IsPermutation xs ys
     pub rising : Heaped leq (take (length xs - 1) xs) → Rising place ys
 
-  pub risen_none : (xs : List X) → 0 < length xs → Risen xs (length xs - 1) xs
-  risen_none xs some =
-      let n = length xs - 1 in
-      let front = length-take-le n xs (omega arith) in
-      let same : (m : ℕ) (d : X) → m < n → get_or xs m d ≡ get_or (take n xs) m d = λ m d h. sym (get_or-take n xs m d h) in
-      record {
-        within = omega arith;
-        shuffled = IsPermutation-refl xs;
-        rising = λ was. record {
-          rest = λ p k d a b h k≢n. alike leq (same p d (omega arith)) (same k d (omega arith)) (was.over p k d (omega arith) a b (omega arith));
-          past = λ p k d _ a b e f h. absurd (omega arith);
-        };
-      }
+  module _ (j : ℕ) (xs : List X) (some : 0 < j) (o : Ranks leq) (ys : List X) (inside : j < length xs) (s : Swapped xs ys ((j - 1) / 2) j) {r : Bool} (t : Tells leq ((j - 1) / 2) j xs r) (later : r ≡ false) where
+    sooner : (d : X) → leq (get_or xs j d) (get_or xs ((j - 1) / 2) d) ≡ true
+    sooner d = turned leq o _ _ (t d ∙ later)
 
-  pub at_top : (j : ℕ) (xs : List X) → j ≡ 0 → Rising j xs → Heaped leq xs
-  at_top j xs top was = record { over = λ p k d _ a b h. was.rest p k d a b h (omega arith) }
-
-  module _ (j : ℕ) (xs : List X) (j≢0 : 0 < j) where
-    pub in_place : {r : Bool} → Tells leq ((j - 1) / 2) j xs r → r ≡ true → Rising j xs → Heaped leq xs
-    in_place t soon was = record {
-      over = λ p k d _ a b h. ⊎_elim
-          (λ e. let up : p ≡ (j - 1) / 2 = omega arith in alike leq (ap (λ n. get_or xs n d) up) (ap (λ n. get_or xs n d) e) (t d ∙ soon))
-          (λ n. was.rest p k d a b h n)
+    rises : Rising j xs → Rising ((j - 1) / 2) ys
+    rises was = record {
+      rest = λ p k d a b h k≢up. ⊎_elim
+          (λ e. alike leq (s.first p d (omega arith)) (s.second k d e) (sooner d))
+          (λ k≢j. ⊎_elim
+          (λ e. alike leq (s.first p d e) (s.other k d k≢up k≢j) (o.chain _ _ _ (sooner d) (was.rest ((j - 1) / 2) k d (omega arith) (omega arith) (omega arith) k≢j)))
+          (λ p≢up. ⊎_elim
+          (λ e. alike leq (s.second p d e) (s.other k d k≢up k≢j) (was.past ((j - 1) / 2) k d (omega arith) (omega arith) (omega arith) (omega arith) (omega arith) (omega arith)))
+          (λ p≢j. alike leq (s.other p d p≢up p≢j) (s.other k d k≢up k≢j) (was.rest p k d a b (omega arith) k≢j))
+          (cases_eq p j))
+          (cases_eq p ((j - 1) / 2)))
+          (cases_eq k j);
+      past = λ p k d _ a b e f h.
+          let over = was.rest p ((j - 1) / 2) d a b (omega arith) (omega arith) in
+          let kept = s.other p d (omega arith) (omega arith) in
+          ⊎_elim
+          (λ is. alike leq kept (s.second k d is) over)
+          (λ k≢j. alike leq kept (s.other k d (omega arith) k≢j) (o.chain _ _ _ over (was.rest ((j - 1) / 2) k d e f (omega arith) k≢j)))
           (cases_eq k j);
     }
 
-    module _ (o : Ranks leq) (ys : List X) (inside : j < length xs) (s : Swapped xs ys ((j - 1) / 2) j) {r : Bool} (t : Tells leq ((j - 1) / 2) j xs r) (later : r ≡ false) where
-      sooner : (d : X) → leq (get_or xs j d) (get_or xs ((j - 1) / 2) d) ≡ true
-      sooner d = turned leq o _ _ (t d ∙ later)
-
-      rises : Rising j xs → Rising ((j - 1) / 2) ys
-      rises was = record {
-        rest = λ p k d a b h k≢up. ⊎_elim
-            (λ e. alike leq (s.first p d (omega arith)) (s.second k d e) (sooner d))
-            (λ k≢j. ⊎_elim
-            (λ e. alike leq (s.first p d e) (s.other k d k≢up k≢j) (o.chain _ _ _ (sooner d) (was.rest ((j - 1) / 2) k d (omega arith) (omega arith) (omega arith) k≢j)))
-            (λ p≢up. ⊎_elim
-            (λ e. alike leq (s.second p d e) (s.other k d k≢up k≢j) (was.past ((j - 1) / 2) k d (omega arith) (omega arith) (omega arith) (omega arith) (omega arith) (omega arith)))
-            (λ p≢j. alike leq (s.other p d p≢up p≢j) (s.other k d k≢up k≢j) (was.rest p k d a b (omega arith) k≢j))
-            (cases_eq p j))
-            (cases_eq p ((j - 1) / 2)))
-            (cases_eq k j);
-        past = λ p k d _ a b e f h.
-            let over = was.rest p ((j - 1) / 2) d a b (omega arith) (omega arith) in
-            let kept = s.other p d (omega arith) (omega arith) in
-            ⊎_elim
-            (λ is. alike leq kept (s.second k d is) over)
-            (λ k≢j. alike leq kept (s.other k d (omega arith) k≢j) (o.chain _ _ _ over (was.rest ((j - 1) / 2) k d e f (omega arith) k≢j)))
-            (cases_eq k j);
-      }
-
-      pub risen_more : (ws : List X) → IsPermutation xs ys → Risen ws j xs → Risen ws ((j - 1) / 2) ys
-      risen_more ws bag sofar = record { within = omega (arith, s.long); shuffled = IsPermutation-trans ws xs ys sofar.shuffled bag; rising = λ r. rises (sofar.rising r) }
+    pub risen_more : (ws : List X) → IsPermutation xs ys → Risen ws j xs → Risen ws ((j - 1) / 2) ys
+    risen_more ws bag sofar = record { within = omega (arith, s.long); shuffled = IsPermutation-trans ws xs ys sofar.shuffled bag; rising = λ r. rises (sofar.rising r) }

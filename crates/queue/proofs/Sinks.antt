@@ -1,12 +1,12 @@
 -- An element sinks in a heap, past each foremost child that comes before it.
-use Rattle.std.proofs.Common.{◌≡◌, ℕ, ◌+◌, ◌*◌, ◌/◌, ◌<◌, ◌≤◌, Bool, true, false, List, length, get_or, refl, ap, ◌∙◌, ⊎_elim, arith}
+use Rattle.std.proofs.Common.{◌≡◌, ℕ, ◌+◌, ◌*◌, ◌<◌, ◌≤◌, Bool, true, false, List, length, get_or, ◌∙◌, ⊎_elim, arith}
 use Rattle.std.specs.List.Sorted.{IsPermutation}
-use Rattle.std.proofs.lemmas.List.Sorted.{IsPermutation-refl, IsPermutation-trans}
+use Rattle.std.proofs.lemmas.List.Sorted.{IsPermutation-trans}
 use Rattle.std.proofs.lemmas.Bool.{cases_eq}
 use Rattle.queue.specs.Ranks.{Ranks}
 use Rattle.queue.specs.Heaps.{HeapedFrom}
 use Rattle.queue.specs.Steps.{Tells, Foremost}
-use Rattle.queue.proofs.Order.{Past, alike, itself, turned}
+use Rattle.queue.proofs.Order.{Past, alike, turned}
 use Rattle.queue.proofs.Swaps.{Swapped}
 
 module _ {X : Type 0} (leq : X → X → Bool) where
@@ -21,67 +21,25 @@ module _ {X : Type 0} (leq : X → X → Bool) where
     pub shuffled : IsPermutation xs ys
     pub sinking : HeapedFrom leq (root + 1) xs → Sinking root place ys
 
-  pub sunk_none : (root : ℕ) (xs : List X) → Sunk root xs root xs
-  sunk_none root xs = record {
-    above = omega arith;
-    shuffled = IsPermutation-refl xs;
-    sinking = λ was. record { rest = λ p k d a b e h n. was.over p k d (omega arith) b e h; past = λ p k d a b. absurd (omega arith) };
-  }
-
-  pub at_leaf : (low j : ℕ) (xs : List X) → length xs / 2 ≤ j → Sinking low j xs → HeapedFrom leq low xs
-  at_leaf low j xs leaf was = record { over = λ p k d a b e h. was.rest p k d a b e h (omega arith) }
-
-  module _ (o : Ranks leq) where
-    pub left_child : (j : ℕ) (xs : List X) → j * 2 + 2 < length xs → {r : Bool} → Tells leq (j * 2 + 1) (j * 2 + 1 + 1) xs r → r ≡ true → Foremost leq j (j * 2 + 1) xs
-    left_child j xs h t soon = record {
-      above = omega arith;
-      below = omega arith;
-      inside = omega arith;
-      first = λ k d a b _. ⊎_elim
-          (λ e. alike leq refl (ap (λ n. get_or xs n d) e) (itself leq o (get_or xs (j * 2 + 1) d)))
-          (λ n. let e : k ≡ j * 2 + 1 + 1 = omega arith in alike leq refl (ap (λ n. get_or xs n d) e) (t d ∙ soon))
-          (cases_eq k (j * 2 + 1));
+  module _ (o : Ranks leq) (low j c : ℕ) (xs : List X) (best : Foremost leq j c xs) (ys : List X) (s : Swapped xs ys j c) {r : Bool} (t : Tells leq j c xs r) (later : r ≡ false) (from : low ≤ j) where
+    sinks : Sinking low j xs → Sinking low c ys
+    sinks was = record {
+      rest = λ p k d a b e h p≢c. ⊎_elim
+          (λ is. ⊎_elim
+          (λ at_c. alike leq (s.first p d is) (s.second k d at_c) (turned leq o _ _ (t d ∙ later)))
+          (λ k≢c. alike leq (s.first p d is) (s.other k d (omega arith) k≢c) (best.first k d (omega arith) (omega arith) (omega arith)))
+          (cases_eq k c))
+          (λ p≢j. ⊎_elim
+          (λ at_j. alike leq (s.other p d p≢j p≢c) (s.first k d at_j) (was.past p c d a (omega arith) (omega arith) best.above best.below best.inside))
+          (λ k≢j. alike leq (s.other p d p≢j p≢c) (s.other k d k≢j (omega (arith, best.above, best.below))) (was.rest p k d a b e (omega arith) p≢j))
+          (cases_eq k j))
+          (cases_eq p j);
+      past = λ p k d a b e f g h. alike leq (s.first p d (omega (arith, best.above, best.below))) (s.other k d (omega (arith, best.above)) (omega arith)) (was.rest c k d (omega (arith, best.above)) f g (omega arith) (omega (arith, best.above)));
     }
 
-    pub right_child : (j : ℕ) (xs : List X) → j * 2 + 2 < length xs → {r : Bool} → Tells leq (j * 2 + 1) (j * 2 + 1 + 1) xs r → r ≡ false → Foremost leq j (j * 2 + 1 + 1) xs
-    right_child j xs h t later = record {
-      above = omega arith;
-      below = omega arith;
-      inside = omega arith;
-      first = λ k d a b _. ⊎_elim
-          (λ e. alike leq refl (ap (λ n. get_or xs n d) e) (turned leq o _ _ (t d ∙ later)))
-          (λ n. let e : k ≡ j * 2 + 1 + 1 = omega arith in alike leq refl (ap (λ n. get_or xs n d) e) (itself leq o (get_or xs (j * 2 + 1 + 1) d)))
-          (cases_eq k (j * 2 + 1));
+    pub sunk_more : (ws : List X) → IsPermutation xs ys → Sunk low ws j xs → Sunk low ws c ys
+    sunk_more ws bag sofar = record {
+      above = omega (arith, best.above);
+      shuffled = IsPermutation-trans ws xs ys sofar.shuffled bag;
+      sinking = λ h. sinks (sofar.sinking h);
     }
-
-    module _ (low j c : ℕ) (xs : List X) (best : Foremost leq j c xs) where
-      pub in_place : {r : Bool} → Tells leq j c xs r → r ≡ true → Sinking low j xs → HeapedFrom leq low xs
-      in_place t soon was = record {
-        over = λ p k d a b e h. ⊎_elim
-            (λ is. alike leq (ap (λ n. get_or xs n d) is) refl (o.chain _ _ _ (t d ∙ soon) (best.first k d (omega arith) (omega arith) h)))
-            (λ n. was.rest p k d a b e h n)
-            (cases_eq p j);
-      }
-
-      module _ (ys : List X) (s : Swapped xs ys j c) {r : Bool} (t : Tells leq j c xs r) (later : r ≡ false) (from : low ≤ j) where
-        sinks : Sinking low j xs → Sinking low c ys
-        sinks was = record {
-          rest = λ p k d a b e h p≢c. ⊎_elim
-              (λ is. ⊎_elim
-              (λ at_c. alike leq (s.first p d is) (s.second k d at_c) (turned leq o _ _ (t d ∙ later)))
-              (λ k≢c. alike leq (s.first p d is) (s.other k d (omega arith) k≢c) (best.first k d (omega arith) (omega arith) (omega arith)))
-              (cases_eq k c))
-              (λ p≢j. ⊎_elim
-              (λ at_j. alike leq (s.other p d p≢j p≢c) (s.first k d at_j) (was.past p c d a (omega arith) (omega arith) best.above best.below best.inside))
-              (λ k≢j. alike leq (s.other p d p≢j p≢c) (s.other k d k≢j (omega (arith, best.above, best.below))) (was.rest p k d a b e (omega arith) p≢j))
-              (cases_eq k j))
-              (cases_eq p j);
-          past = λ p k d a b e f g h. alike leq (s.first p d (omega (arith, best.above, best.below))) (s.other k d (omega (arith, best.above)) (omega arith)) (was.rest c k d (omega (arith, best.above)) f g (omega arith) (omega (arith, best.above)));
-        }
-
-        pub sunk_more : (ws : List X) → IsPermutation xs ys → Sunk low ws j xs → Sunk low ws c ys
-        sunk_more ws bag sofar = record {
-          above = omega (arith, best.above);
-          shuffled = IsPermutation-trans ws xs ys sofar.shuffled bag;
-          sinking = λ h. sinks (sofar.sinking h);
-        }

@@ -2,7 +2,7 @@
 use Rattle.std.specs.Prelude.{◌≡◌, ◌<◌, List, ◌∷◌, length, take, Some, None, Ok, Err, Option, Result}
 use Rattle.std.specs.List.Sorted.{IsPermutation}
 use Rattle.queue.specs.declared.heap.Heap.{Heap}
-use Rattle.queue.specs.declared.heap.Full.{Full}
+use Rattle.lent.specs.declared.list.Full.{Full}
 
 abbrev pub memory : {T : Type 0} → Heap T → List T
 memory h = h.items.now

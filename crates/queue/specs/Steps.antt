@@ -1,10 +1,5 @@
 -- What the steps of a heap find out.
-use Rattle.std.specs.Prelude.{◌≡◌, ℕ, ◌+◌, ◌*◌, ◌<◌, ◌≤◌, Bool, true, List, length, Some, None, Option, slice_index_or}
-
--- an element was found at i only where xs has one
-abbrev pub Inside : {X : Type 0} → ℕ → List X → Option X → Type 0
-Inside i xs None = length xs ≤ i
-Inside i xs (Some _) = i < length xs
+use Rattle.std.specs.Prelude.{◌≡◌, ℕ, ◌+◌, ◌*◌, ◌<◌, ◌≤◌, Bool, true, List, length, slice_index_or}
 
 module _ {X : Type 0} (leq : X → X → Bool) where
   -- r says whether the element at i comes no later than the one at j

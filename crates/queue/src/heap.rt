@@ -1,24 +1,22 @@
 // The queue: a heap over lent memory.
-ghost use Rattle.std.specs.Prelude.{◌≡◌, ◌≤◌, [], ◌∷◌, ◌++◌, length, drop, Decides};
+ghost use Rattle.std.specs.Prelude.{◌≡◌, ◌≤◌, [], ◌∷◌, ◌++◌, length, Decides};
 ghost use Rattle.std.specs.List.Sorted.{IsPermutation};
 ghost use Rattle.queue.specs.Heaps.{Heaped, first, Leads};
 ghost use Rattle.queue.specs.Held.{memory, held, Stores, Takes};
-ghost use Rattle.queue.specs.Steps.{Inside};
 
-use crate::front::{front_at, front_len, heapify_front, put_behind, raise_last, remove_front};
+use crate::front::{heapify_front, raise_last, remove_front};
 use crate::ranked::Ranked;
+use lent::front::front;
+pub use lent::list::Full;
 
 // The first `len` elements of the memory; the rest is free.
+// A heap of the library's own would need more memory than is lent.
 // `new`, `clear` and `settle` leave a heap in order, `push` and `take` keep it so, and only `append` does not.
 #[derive(Drop)]
 pub struct Heap<'a, T> {
     items: &'a mut [T],
     len: usize,
 }
-
-// There is no room for another element.
-#[derive(Clone, Copy, Debug, PartialEq, Eq)]
-pub struct Full;
 
 impl<'a, T: Ranked> Heap<'a, T> {
     // An empty heap, over memory of any length.
@@ -39,11 +37,18 @@ impl<'a, T: Ranked> Heap<'a, T> {
         self.items.len()
     }
 
+    // The elements in the heap's own order.
+    fn as_slice(&self) -> &[T]
+        ensures { result.now ≡ held self.now }
+    {
+        front(&*self.items, self.len)
+    }
+
     pub fn len(&self) -> usize
         ensures count { result ≡ length (held self.now) }
         ensures within { result ≤ length (memory self.now) }
     {
-        front_len(&*self.items, self.len)
+        self.as_slice().len()
     }
 
     pub fn is_empty(&self) -> bool
@@ -52,21 +57,12 @@ impl<'a, T: Ranked> Heap<'a, T> {
         self.len() == 0
     }
 
-    // The element at i, in the heap's own order.
-    fn at(&self, i: usize) -> Option<T>
-        ensures element { result ≡ first (drop i (held self.now)) }
-        ensures inside { Inside i (held self.now) result }
-        ensures leads { result ≡ first (held self.now) → Heaped T.leq (held self.now) → Leads T.leq (held self.now) result }
-    {
-        front_at(&*self.items, self.len, i)
-    }
-
     // The element that comes no later than any, where the heap is in order; absent where it is empty.
     pub fn least(&self) -> Option<T>
         ensures first { result ≡ first (held self.now) }
         ensures leads { Heaped T.leq (held self.now) → Leads T.leq (held self.now) result }
     {
-        self.at(0)
+        self.as_slice().first().copied()
     }
 
     pub fn clear(&mut self)
@@ -85,7 +81,7 @@ impl<'a, T: Ranked> Heap<'a, T> {
         if len == self.capacity() {
             return Err(Full);
         }
-        put_behind(&mut *self.items, len, item);
+        self.items[len] = item;
         self.len = len + 1;
         Ok(())
     }
@@ -96,7 +92,7 @@ impl<'a, T: Ranked> Heap<'a, T> {
         ensures heaped { Heaped T.leq (held self.new) }
         ensures capacity { length (memory self.new) ≡ length (memory self.old) }
     {
-        let len = self.len;
+        let len = self.len();
         heapify_front(&mut *self.items, len);
     }
 
@@ -105,7 +101,7 @@ impl<'a, T: Ranked> Heap<'a, T> {
         ensures { Stores self.old self.new result (λ ys. IsPermutation (item ∷ held self.old) ys × (Heaped T.leq (held self.old) → Heaped T.leq ys)) }
     {
         self.append(item)?;
-        let len = self.len;
+        let len = self.len();
         raise_last(&mut *self.items, len);
         Ok(())
     }
@@ -116,10 +112,8 @@ impl<'a, T: Ranked> Heap<'a, T> {
         ensures takes { Takes self.old self.new result }
         ensures leads { Heaped T.leq (held self.old) → Leads T.leq (held self.old) result × Heaped T.leq (held self.new) }
     {
+        let first = self.least()?;
         let len = self.len();
-        let Some(first) = self.at(0) else {
-            return None;
-        };
         remove_front(&mut *self.items, len);
         self.len = len - 1;
         Some(first)

@@ -8,7 +8,8 @@ use crate::ranked::Ranked;
 
 // Whether the element at i comes no later than the one at j.
 fn in_order<T: Ranked>(items: &[T], i: usize, j: usize) -> bool
-    requires { (i < length items.now) × (j < length items.now) }
+    requires first { i < length items.now }
+    requires second { j < length items.now }
     ensures { Tells T.leq i j items.now result }
 {
     items[i].at_most(&items[j])
@@ -37,6 +38,7 @@ pub fn sift_up<T: Ranked>(items: &mut [T])
     ensures heaped { Heaped T.leq (take (length items.old - 1) items.old) → Heaped T.leq items.new }
 {
     let mut place = items.len() - 1;
+    // The places are those of a path in a tree, each half the one before it: no range steps so.
     while 0 < place {
         let parent = (place - 1) / 2;
         if in_order(items, parent, place) {
@@ -53,6 +55,7 @@ fn sift_down<T: Ranked>(items: &mut [T], root: usize)
     ensures heaped { HeapedFrom T.leq (root + 1) items.old → HeapedFrom T.leq root items.new }
 {
     let mut place = root;
+    // A path in a tree, as above, which turns where the elements say.
     while place < items.len() / 2 {
         let child = foremost_child(items, place);
         if in_order(items, place, child) {
@@ -68,9 +71,7 @@ pub fn heapify<T: Ranked>(items: &mut [T])
     ensures shuffled { IsPermutation items.old items.new }
     ensures heaped { Heaped T.leq items.new }
 {
-    let mut root = items.len() / 2;
-    while 0 < root {
-        root -= 1;
+    for root in (0..items.len() / 2).rev() {
         sift_down(items, root);
     }
 }
@@ -83,5 +84,5 @@ pub fn remove_first<T: Ranked>(items: &mut [T])
 {
     let last = items.len() - 1;
     items[0] = items[last];
-    sift_down(&mut items[0..last], 0);
+    sift_down(&mut items[..last], 0);
 }

@@ -1,10 +1,7 @@
 use Rattle.std.proofs.Common.{arith}
 use Rattle.queue.proofs.Swaps.{swapped}
-use Rattle.queue.proofs.Rises.{risen_none, risen_more, in_place, at_top}
+use Rattle.queue.proofs.Rises.{risen_more}
 use Rattle.queue.proofs.sifts.sift_up.Goals as goal
-
-pub loop-place-init : goal.loop-place-init
-loop-place-init g c = risen_none g.T.Ranked.leq c.args.items.now (omega arith)
 
 pub loop-place-preserved : goal.loop-place-preserved
 loop-place-preserved g c =
@@ -14,15 +11,3 @@ loop-place-preserved g c =
     risen_more m.leq l.place l.items (omega arith) m.ranks c.swap.new.self l.invariant.within
     (swapped l.items c.swap.new.self _ l.place s.permutation s.by_index.0 s.by_index.1 s.by_index.2)
     c.in_order.ensures c.if-in_order.false c.args.items.now s.permutation l.invariant
-
-pub returns-then-in_order : goal.returns-then-in_order
-returns-then-in_order g c =
-    let m = g.T.Ranked in
-    let l = c.loop-place in
-    record {
-      shuffled = l.invariant.shuffled;
-      heaped = λ r. in_place m.leq l.place l.items (omega arith) c.in_order.ensures c.if-in_order.true (l.invariant.rising r);
-    }
-
-pub returns : goal.returns
-returns g c = let l = c.loop-place in record { shuffled = l.invariant.shuffled; heaped = λ r. at_top g.T.Ranked.leq l.place l.items (omega arith) (l.invariant.rising r) }
