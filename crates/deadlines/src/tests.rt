@@ -52,10 +52,10 @@ fn the_smallest_deadline_is_next(rt: HostRuntime) -> Result<(), Fail> {
         at: Bound::At(ticks(0)),
     }; 4];
     let mut queue = Heap::new(&mut due_memory);
-    rows.push(due(9));
-    rows.push(tick_row(Bound::NoBound));
-    rows.push(due(4));
-    rows.push(due(7));
+    rows.push(due(9))?;
+    rows.push(tick_row(Bound::NoBound))?;
+    rows.push(due(4))?;
+    rows.push(due(7))?;
     rebuild(&mut queue, &rows);
     assert_eq!(rt; next(&queue).ok_or("no deadline")?.count, 4);
     assert!(rt; any_before(&queue, &ticks(5)));
@@ -73,12 +73,12 @@ fn absent_deadlines_come_last(rt: HostRuntime) -> Result<(), Fail> {
     let mut queue = Heap::new(&mut due_memory);
     assert!(rt; next(&queue).is_none());
     assert!(rt; !any_before(&queue, &ticks(i64::MAX)));
-    rows.push(tick_row(Bound::NoBound));
-    rows.push(tick_row(Bound::NoBound));
+    rows.push(tick_row(Bound::NoBound))?;
+    rows.push(tick_row(Bound::NoBound))?;
     rebuild(&mut queue, &rows);
     assert!(rt; next(&queue).is_none());
     assert!(rt; !any_before(&queue, &ticks(i64::MAX)));
-    rows.push(due(i64::MAX));
+    rows.push(due(i64::MAX))?;
     push_from(&mut queue, &rows, 2);
     assert_eq!(rt; next(&queue).ok_or("no deadline")?.count, i64::MAX);
     assert!(rt; !any_before(&queue, &ticks(i64::MAX)));
@@ -93,10 +93,10 @@ fn pairs_go_by_tick_then_place(rt: HostRuntime) -> Result<(), Fail> {
         at: Bound::At(pair(0, 0)),
     }; 3];
     let mut queue = Heap::new(&mut due_memory);
-    rows.push(pair_due(7, 2));
+    rows.push(pair_due(7, 2))?;
     rebuild(&mut queue, &rows);
-    rows.push(pair_due(8, 0));
-    rows.push(pair_due(7, 1));
+    rows.push(pair_due(8, 0))?;
+    rows.push(pair_due(7, 1))?;
     push_from(&mut queue, &rows, 1);
     assert_eq!(rt; queue.len(), 3);
     assert!(rt; any_before(&queue, &pair(7, 2)));
@@ -115,8 +115,8 @@ fn rebuilding_forgets_rows_that_went(rt: HostRuntime) -> Result<(), Fail> {
         at: Bound::At(ticks(0)),
     }; 2];
     let mut queue = Heap::new(&mut due_memory);
-    rows.push(due(3));
-    rows.push(due(5));
+    rows.push(due(3))?;
+    rows.push(due(5))?;
     rebuild(&mut queue, &rows);
     rows.set(0, due(6));
     rebuild(&mut queue, &rows);

@@ -67,13 +67,13 @@ fn a_row_past_its_deadline_ends_with_its_line(rt: HostRuntime) -> Result<(), Fai
 }
 
 #[test]
-fn the_rows_that_stay_are_kept_in_order(rt: HostRuntime) {
+fn the_rows_that_stay_are_kept_in_order(rt: HostRuntime) -> Result<(), Fail> {
     let mut memory = [row(0, Bound::NoBound); 5];
     let mut rows = Lent::new(&mut memory);
-    rows.push(row(1, Bound::At(ticks(106))));
-    rows.push(row(2, Bound::At(ticks(107))));
-    rows.push(row(3, Bound::At(ticks(100))));
-    rows.push(row(4, Bound::NoBound));
+    rows.push(row(1, Bound::At(ticks(106))))?;
+    rows.push(row(2, Bound::At(ticks(107))))?;
+    rows.push(row(3, Bound::At(ticks(100))))?;
+    rows.push(row(4, Bound::NoBound))?;
     let mut paper = [line(0); 4];
     let mut lines = Lent::new(&mut paper);
     assert_eq!(rt; tell_ends(&rows, &ticks(107), &mut lines), 2);
@@ -85,4 +85,5 @@ fn the_rows_that_stay_are_kept_in_order(rt: HostRuntime) {
     assert_eq!(rt; slot_at(&rows, 1), Some(4));
     assert_eq!(rt; rows.len(), 2);
     assert_eq!(rt; rows.capacity(), 5);
+    Ok(())
 }

@@ -1,7 +1,7 @@
 // Lists in memory that the caller lends, and sinks that items are put into.
 #![tactic(auto)]
 
-mod front;
+pub mod front;
 pub mod list;
 pub mod room;
 pub mod sink;

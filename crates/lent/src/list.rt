@@ -1,16 +1,21 @@
 // A list in lent memory.
-ghost use Rattle.std.specs.Prelude.{◌≡◌, ◌-◌, ◌<◌, ◌≤◌, [], length, take};
+ghost use Rattle.std.specs.Prelude.{◌≡◌, ◌-◌, ◌≤◌, [], length, take};
 ghost use Rattle.std.specs.List.{slice_get};
 ghost use Rattle.lent.specs.Lists.{memory, held, Pushes, Replaces};
 
-use crate::front::{front_at, front_len, put_at};
+use crate::front::front;
 
 // The first `len` elements of the memory; the rest is free.
+// Memory is lent: no list of the library's own.
 #[derive(Drop)]
 pub struct Lent<'a, T> {
     items: &'a mut [T],
     len: usize,
 }
+
+// There is no room for another element.
+#[derive(Clone, Copy, Debug, PartialEq, Eq)]
+pub struct Full;
 
 impl<'a, T: Copy> Lent<'a, T> {
     // An empty list, over memory of any length.
@@ -30,11 +35,17 @@ impl<'a, T: Copy> Lent<'a, T> {
         self.items.len()
     }
 
+    pub fn as_slice(&self) -> &[T]
+        ensures { result.now ≡ held self.now }
+    {
+        front(&*self.items, self.len)
+    }
+
     pub fn len(&self) -> usize
         ensures count { result ≡ length (held self.now) }
         ensures within { result ≤ length (memory self.now) }
     {
-        front_len(&*self.items, self.len)
+        self.as_slice().len()
     }
 
     // How many more elements the memory has room for.
@@ -47,27 +58,20 @@ impl<'a, T: Copy> Lent<'a, T> {
     pub fn get(&self, i: usize) -> Option<T>
         ensures { result ≡ slice_get (held self.now) i }
     {
-        front_at(&*self.items, self.len, i)
+        self.as_slice().get(i).copied()
     }
 
-    // Adds an element at the end and answers true, or changes nothing where the memory is full.
-    pub fn push(&mut self, item: T) -> bool
+    // Adds an element at the end; refused, with nothing changed, where the memory is full.
+    pub fn push(&mut self, item: T) -> Result<(), Full>
         ensures { Pushes self.old item result self.new }
     {
         let len = self.len();
         if len == self.capacity() {
-            return false;
+            return Err(Full);
         }
-        put_at(&mut *self.items, len, item);
+        self.items[len] = item;
         self.len = len + 1;
-        true
-    }
-
-    fn replace(&mut self, i: usize, item: T)
-        requires { i < length (held self.old) }
-        ensures { Replaces self.old i item self.new }
-    {
-        put_at(&mut *self.items, i, item);
+        Ok(())
     }
 
     // Puts an element in the place of the one at i, or changes nothing where there is none.
@@ -75,15 +79,8 @@ impl<'a, T: Copy> Lent<'a, T> {
         ensures { Replaces self.old i item self.new }
     {
         if i < self.len() {
-            self.replace(i, item);
+            self.items[i] = item;
         }
-    }
-
-    // The length of the list once it is cut to n elements at most.
-    fn cut_to(&self, n: usize) -> usize
-        ensures { take result (memory self.now) ≡ take n (held self.now) }
-    {
-        self.len.min(n)
     }
 
     // Keeps the first n elements at most.
@@ -91,7 +88,7 @@ impl<'a, T: Copy> Lent<'a, T> {
         ensures held { held self.new ≡ take n (held self.old) }
         ensures memory { memory self.new ≡ memory self.old }
     {
-        self.len = self.cut_to(n);
+        self.len = self.len.min(n);
     }
 
     pub fn clear(&mut self)

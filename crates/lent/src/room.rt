@@ -1,32 +1,33 @@
 // A sink that only counts: how many more items there would be room for, and whether there were too many.
 ghost use Rattle.std.specs.Prelude.{◌≡◌, false};
-ghost use Rattle.lent.specs.Counting.{counted, counted_adds};
+ghost use Rattle.lent.specs.Counting.{places, lacking, counted, counted_adds};
 
 use crate::sink::Sink;
 
 #[derive(Clone, Copy, Debug, PartialEq, Eq)]
 pub struct Room {
-    left: usize,
-    short: bool,
+    // absent once more was put than there was room for
+    left: Option<usize>,
 }
 
 impl Room {
     pub fn new(left: usize) -> Room
-        ensures { (result.left ≡ left) × (result.short ≡ false) }
+        ensures left { places result ≡ left }
+        ensures short { lacking result ≡ false }
     {
-        Room { left, short: false }
+        Room { left: Some(left) }
     }
 
     pub fn left(&self) -> usize
-        ensures { result ≡ self.now.left }
+        ensures { result ≡ places self.now }
     {
-        self.left
+        self.left.unwrap_or(0)
     }
 
     pub fn is_short(&self) -> bool
-        ensures { result ≡ self.now.short }
+        ensures { result ≡ lacking self.now }
     {
-        self.short
+        self.left.is_none()
     }
 }
 
@@ -36,10 +37,6 @@ impl<T> Sink<T> for Room {
     ghost adds = { counted_adds };
 
     fn put(&mut self, item: &T) {
-        if self.left > 0 {
-            self.left -= 1;
-        } else {
-            self.short = true;
-        }
+        self.left = self.left.and_then(|n| n.checked_sub(1));
     }
 }

@@ -18,7 +18,7 @@ fn recognised(slot: u8, width: u8, count: i64) -> Line<Ticks> {
 }
 
 fn tell<K: Kind>(report: &mut Report<K>, line: &Line<K>) {
-    report.push(*line);
+    let _ = report.push(*line);
 }
 
 #[test]

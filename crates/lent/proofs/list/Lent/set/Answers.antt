@@ -1,13 +1,15 @@
-use Rattle.std.proofs.Common.{take, sym, refl, arith}
-use Rattle.std.proofs.lemmas.List.{set_past}
+use Rattle.std.proofs.Common.{refl, arith}
+use lib.Seq.{take-set-lt}
+use Rattle.std.proofs.lemmas.List.{length-take}
 use Rattle.lent.proofs.list.Lent.set.Goals as goal
 
-pub returns-else-i-len : goal.returns-else-i-len
-returns-else-i-len g c =
+pub returns-then-i-len : goal.returns-then-i-len
+returns-then-i-len g c =
     let ms = c.args.self.now.items.now in
     let n = c.args.self.now.len in
+    let e = length-take n ms in
     record {
-      held_is = sym (set_past (take n ms) c.args.i c.args.item (omega arith));
-      within = λ inside. absurd (omega arith);
-      beyond = λ _. refl;
+      held_is = take-set-lt n ms c.args.i c.args.item (omega arith);
+      within = λ _. refl;
+      beyond = λ past. absurd (omega arith);
     }
