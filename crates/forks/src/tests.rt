@@ -36,10 +36,7 @@ fn line(slot: u8) -> Line<Ticks> {
 }
 
 fn slot_at(rows: &Lent<Row<Ticks>>, i: usize) -> Option<u8> {
-    match rows.get(i) {
-        Some(row) => Some(row.slot),
-        None => None,
-    }
+    rows.get(i).map(|row| row.slot)
 }
 
 #[test]
@@ -70,10 +67,10 @@ fn a_row_past_its_deadline_ends_with_its_line(rt: HostRuntime) -> Result<(), Fai
 fn the_rows_that_stay_are_kept_in_order(rt: HostRuntime) -> Result<(), Fail> {
     let mut memory = [row(0, Bound::NoBound); 5];
     let mut rows = Lent::new(&mut memory);
-    rows.push(row(1, Bound::At(ticks(106))))?;
-    rows.push(row(2, Bound::At(ticks(107))))?;
-    rows.push(row(3, Bound::At(ticks(100))))?;
-    rows.push(row(4, Bound::NoBound))?;
+    assert_eq!(rt; rows.push(row(1, Bound::At(ticks(106)))), Ok(()));
+    assert_eq!(rt; rows.push(row(2, Bound::At(ticks(107)))), Ok(()));
+    assert_eq!(rt; rows.push(row(3, Bound::At(ticks(100)))), Ok(()));
+    assert_eq!(rt; rows.push(row(4, Bound::NoBound)), Ok(()));
     let mut paper = [line(0); 4];
     let mut lines = Lent::new(&mut paper);
     assert_eq!(rt; tell_ends(&rows, &ticks(107), &mut lines), 2);
