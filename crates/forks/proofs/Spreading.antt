@@ -26,8 +26,7 @@ use Rattle.slots.specs.Loads.{slot_table}
 use Rattle.report.specs.declared.line.Line.{Line}
 use Rattle.report.specs.Lines.{line_of}
 use Rattle.forks.specs.declared.row.Row.{Row}
-use Rattle.forks.specs.declared.row.Arrival.{Arrival}
-use Rattle.forks.specs.declared.wanted.Wanted.{Wanted}
+use Rattle.forks.specs.declared.incoming.Incoming.{Incoming}
 use Rattle.forks.specs.Forks.{Put, Parent as ForkParent, Forked}
 use Rattle.forks.specs.Wanting.{mask_of}
 use Rattle.forks.specs.Rows.{choice_of, row_of, Standing, InLoading}
@@ -103,10 +102,10 @@ module _ {K : Type 0} (kind : Meaning K) (a : List (Act kind.G)) (e : Event kind
   pub table_lies : (s : ℕ) (entries : List (Bound K)) → 64 ≤ length (slot_table s entries) → 1 ≤ s → s ≤ length entries / 64
   table_lies s entries long low = omega (arith, length-take 64 (drop (64 * (s - 1)) entries), length-drop (64 * (s - 1)) entries)
 
-  pub parent_of : (entries : List (Bound K)) (wanted : Wanted) (arrival : Arrival K) → Ready kind a e entries wanted arrival → (parent : Row K) (l : Loading kind.G) → loading_of parent.slot a ≡ Some l → Standing kind l parent →
-      Blank l (choice_of parent) ⊎ HeldIn kind.group l (Some e.stamp) (choice_of parent) → (table : List (Bound K)) → table ≡ slot_table parent.slot entries → (bits : ℕ) → ((j : ℕ) → is_in bits j ≡ is_in (mask_of wanted parent.slot) j) →
-      ForkParent kind l (numbered a e) table bits arrival parent
-  parent_of entries wanted arrival ready parent l loaded standing alive table is-table bits same = record {
+  pub parent_of : (incoming : Incoming K) → Ready kind a e incoming → (parent : Row K) (l : Loading kind.G) → loading_of parent.slot a ≡ Some l → Standing kind l parent →
+      Blank l (choice_of parent) ⊎ HeldIn kind.group l (Some e.stamp) (choice_of parent) → (table : List (Bound K)) → table ≡ slot_table parent.slot incoming.entries.now → (bits : ℕ) → ((j : ℕ) → is_in bits j ≡ is_in (mask_of incoming.wanted.now parent.slot) j) →
+      ForkParent kind l (numbered a e) table bits incoming.arrival parent
+  parent_of incoming ready parent l loaded standing alive table is-table bits same = record {
     standing = standing;
     closed = subst (ClosedTable kind.group kind.value kind.weight l) (sym is-table) (ready.tables parent.slot l loaded);
     wants = λ j. Decides-at _ _ (same j) (ready.wants parent.slot l loaded j);

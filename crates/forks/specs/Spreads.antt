@@ -1,7 +1,6 @@
 -- What the next event makes of all its parents: of each the rows that it grows and the lines that it ripens.
 use Rattle.std.specs.Prelude.{◌≡◌, ℕ, ◌+◌, ◌<◌, ◌≤◌, ◌⊎◌, List, [], ◌∷◌, map, length, take, Some, None, Decides, Option, slice_index_or}
 use Rattle.std.specs.List.{AllByRecursion}
-use Rattle.kinds.specs.declared.bound.Bound.{Bound}
 use Rattle.kinds.specs.declared.kind.Kind.{Ghosts as Meaning}
 use Rattle.logs.specs.Events.{Event}
 use Rattle.law.specs.Bags.{Exactly}
@@ -19,8 +18,7 @@ use Rattle.slots.specs.declared.table.Slots.{Slots}
 use Rattle.report.specs.declared.line.Line.{Line}
 use Rattle.report.specs.Lines.{line_of}
 use Rattle.forks.specs.declared.row.Row.{Row}
-use Rattle.forks.specs.declared.row.Arrival.{Arrival}
-use Rattle.forks.specs.declared.wanted.Wanted.{Wanted}
+use Rattle.forks.specs.declared.incoming.Incoming.{Incoming}
 use Rattle.forks.specs.Rows.{choice_of, row_of, Standing, Arrives, InLoading}
 use Rattle.forks.specs.Ends.{Before, Settles}
 use Rattle.forks.specs.Forks.{Sunk}
@@ -32,11 +30,11 @@ numbered a e = record { number = event_count a + 1; seen = e }
 
 module _ {K : Type 0} (kind : Meaning K) (a : List (Act kind.G)) (e : Event kind.G) where
   -- after the accepted calls a, memory is ready for the event: its number and stamp, the closed bounds of each loading, and which of its variables the event's type fits
-  pub record Ready (entries : List (Bound K)) (wanted : Wanted) (arrival : Arrival K) : Type 0 where
+  pub record Ready (incoming : Incoming K) : Type 0 where
     pub small : SmallSlots a
-    pub arrives : Arrives kind (numbered a e) arrival
-    pub tables : (s : ℕ) (l : Loading kind.G) → loading_of s a ≡ Some l → ClosedTable kind.group kind.value kind.weight l (slot_table s entries)
-    pub wants : (s : ℕ) (l : Loading kind.G) → loading_of s a ≡ Some l → (j : ℕ) → Decides (is_in (mask_of wanted s) j) ((j < width l) × (e.name ≡ slice_index_or l.chronicle.types j []))
+    pub arrives : Arrives kind (numbered a e) incoming.arrival
+    pub tables : (s : ℕ) (l : Loading kind.G) → loading_of s a ≡ Some l → ClosedTable kind.group kind.value kind.weight l (slot_table s incoming.entries.now)
+    pub wants : (s : ℕ) (l : Loading kind.G) → loading_of s a ≡ Some l → (j : ℕ) → Decides (is_in (mask_of incoming.wanted.now s) j) ((j < width l) × (e.name ≡ slice_index_or l.chronicle.types j []))
 
   -- a row with nothing filled, or one held at the event's stamp
   abbrev pub Alive : Row K → Type 0
@@ -74,9 +72,9 @@ forgets s xs t = Unit {0}
 
 module _ {K R L : Type 0} (kind : Meaning K) (tookR : R → List (Row K) → R → Type 0) (tookL : L → List (Line K) → L → Type 0) where
   -- of the first n rows so many stay at the event's stamp, and what it makes of those went into the sinks
-  pub record Surveyed (rows : List (Row K)) (entries : List (Bound K)) (wanted : Wanted) (arrival : Arrival K) (n stay : ℕ) (r r' : R) (l l' : L) : Type 0 where
+  pub record Surveyed (rows : List (Row K)) (incoming : Incoming K) (n stay : ℕ) (r r' : R) (l l' : L) : Type 0 where
     pub kept : List (Row K)
     pub count : stay ≡ length kept
-    pub settles : Settles kind forgets (kind.value arrival.stamp) rows (take n rows) kept tt tt
+    pub settles : Settles kind forgets (kind.value incoming.arrival.stamp) rows (take n rows) kept tt tt
     pub sunk : Sunk tookR tookL r r' l l' (λ born ripe.
-        (a : List (Act kind.G)) (e : Event kind.G) → Ready kind a e entries wanted arrival → Before kind a (event e []) (kind.value arrival.stamp) rows → Spread kind a e (map row_of kept) born ripe)
+        (a : List (Act kind.G)) (e : Event kind.G) → Ready kind a e incoming → Before kind a (event e []) (kind.value incoming.arrival.stamp) rows → Spread kind a e (map row_of kept) born ripe)

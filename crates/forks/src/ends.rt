@@ -15,10 +15,7 @@ pub fn tell_ends<K: Kind, L: Sink<Line<K>>>(rows: &Lent<Row<K>>, moment: &K, lin
     ensures { (kept : List (RowOf K)) × (result ≡ length kept) × Settles K.Kind L.Sink.took (K.value moment.now) (held rows.now) (held rows.now) kept lines.old lines.new }
 {
     let mut staying = 0;
-    for i in 0..rows.len() {
-        let Some(row) = rows.get(i) else {
-            break;
-        };
+    for row in rows.as_slice() {
         let Some(line) = row.ending(moment) else {
             staying += 1;
             continue;
@@ -34,6 +31,7 @@ pub fn bury<K: Kind, L: Sink<Line<K>>>(rows: &mut Lent<Row<K>>, moment: &K, line
     ensures capacity { length (memory rows.new) ≡ length (memory rows.old) }
 {
     let mut stay = 0;
+    // By index: a row that stays is put over one that was read, so no slice can be lent meanwhile.
     for i in 0..rows.len() {
         let Some(row) = rows.get(i) else {
             break;

@@ -10,7 +10,7 @@ use kinds::kind::Kind;
 use lent::sink::Sink;
 use report::line::Line;
 use rows::filled::Filled;
-use rows::holding::{Placing, place};
+use rows::holding::Placing;
 
 // Puts the event at variable j, where that is wanted and open.
 fn fork_at<K: Kind, R: Sink<Row<K>>, L: Sink<Line<K>>>(
@@ -27,14 +27,7 @@ fn fork_at<K: Kind, R: Sink<Row<K>>, L: Sink<Line<K>>>(
     if !wanted.has(j) || parent.filled.has(j) {
         return;
     }
-    match place(
-        table,
-        parent.filled,
-        &parent.stamps,
-        parent.width as usize,
-        j,
-        &arrival.stamp,
-    ) {
+    match parent.portrait(table).place(j, &arrival.stamp) {
         Placing::Fails => {}
         Placing::Grows => rows.put(&parent.with(table, j, arrival)),
         Placing::Ripens => lines.put(&parent.completed(j, arrival)),
@@ -52,8 +45,7 @@ pub fn fork<K: Kind, R: Sink<Row<K>>, L: Sink<Line<K>>>(
 )
     ensures { Sunk R.Sink.took L.Sink.took rows.old rows.new lines.old lines.new (λ born ripe. (l : Loading K.G) (e : Seen K.G) → Parent K.Kind l e table.now wanted.bits arrival.now parent.now → Forked K.Kind l e (Put l (choice_of parent.now) e) parent.now.slot born ripe) }
 {
-    let width = parent.width as usize;
-    for j in 0..width {
+    for j in 0..usize::from(parent.width) {
         fork_at(parent, table, wanted, arrival, j, rows, lines);
     }
 }

@@ -3,6 +3,7 @@
 
 pub mod ends;
 pub mod fork;
+pub mod incoming;
 pub mod row;
 pub mod spread;
 pub mod tables;

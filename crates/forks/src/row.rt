@@ -1,10 +1,10 @@
 // A row in memory: a choice of a slot's loading with the stamps of its events, and the deadline that this leaves.
-ghost use Rattle.std.specs.Prelude.{◌≡◌, ℕ, ◌<◌, ◌≤◌, replicate, slice_set};
+ghost use Rattle.std.specs.Prelude.{◌≡◌, ℕ, ◌<◌, ◌≤◌, List, replicate, slice_set};
 ghost use Rattle.law.specs.Holding.{width as width_of};
 ghost use Rattle.law.specs.Histories.{Seen, Loading};
 ghost use Rattle.rows.specs.Placings.{choice_plus, Placeable};
 ghost use Rattle.report.specs.Lines.{line_of};
-ghost use Rattle.rows.specs.Portraits.{ClosedTable};
+ghost use Rattle.rows.specs.Portraits.{Portrays, ClosedTable, Depicts};
 ghost use Rattle.forks.specs.Rows.{choice_of, Standing, Arrives, Grown, recognition, EndsAt};
 
 use kinds::bound::Bound;
@@ -13,7 +13,7 @@ use report::letter::Letter;
 use report::line::Line;
 use rows::filled::Filled;
 use rows::holding::stays_held;
-use rows::latest::deadline;
+use rows::portrait::Portrait;
 
 // The deadline first: it is what most scans look at.
 #[derive(Clone, Copy)]
@@ -33,22 +33,12 @@ pub struct Arrival<K> {
     pub stamp: K,
 }
 
-fn numbers_with(numbers: &[u32; 8], j: usize, number: u32) -> [u32; 8]
-    ensures { j < 8 → result ≡ slice_set numbers.now j number }
+fn replaced<T: Copy>(items: &[T; 8], j: usize, item: T) -> [T; 8]
+    ensures { j < 8 → result ≡ slice_set items.now j item }
 {
-    let mut all = *numbers;
+    let mut all = *items;
     if j < 8 {
-        all[j] = number;
-    }
-    all
-}
-
-fn stamps_with<K: Kind>(stamps: &[K; 8], j: usize, stamp: K) -> [K; 8]
-    ensures { j < 8 → result ≡ slice_set stamps.now j stamp }
-{
-    let mut all = *stamps;
-    if j < 8 {
-        all[j] = stamp;
+        all[j] = item;
     }
     all
 }
@@ -68,21 +58,31 @@ impl<K: Kind> Row<K> {
         }
     }
 
+    // What the tests look at, with the closed bounds of the row's chronicle.
+    pub(crate) fn portrait<'a>(&'a self, table: &'a [Bound<K>]) -> Portrait<'a, K>
+        ensures { (l : Loading K.G) (k : List ℕ) → Portrays K.group K.value K.weight l k self.now.filled.bits self.now.stamps self.now.width → ClosedTable K.group K.value K.weight l table.now → Depicts K.group K.value K.weight l k result }
+    {
+        Portrait {
+            table,
+            filled: self.filled,
+            stamps: &self.stamps,
+            width: usize::from(self.width),
+        }
+    }
+
     // The row with an event at the open variable j.
     pub fn with(&self, table: &[Bound<K>], j: usize, arrival: &Arrival<K>) -> Row<K>
         ensures { (l : Loading K.G) (e : Seen K.G) → Standing K.Kind l self.now → ClosedTable K.group K.value K.weight l table.now → Placeable K.group l (choice_of self.now) j e → Arrives K.Kind e arrival.now → Grown K.Kind l self.now j e result }
     {
-        let filled = self.filled.with(j);
-        let numbers = numbers_with(&self.numbers, j, arrival.number);
-        let stamps = stamps_with(&self.stamps, j, arrival.stamp);
-        let width = self.width;
+        let grown = Row {
+            filled: self.filled.with(j),
+            numbers: replaced(&self.numbers, j, arrival.number),
+            stamps: replaced(&self.stamps, j, arrival.stamp),
+            ..*self
+        };
         Row {
-            deadline: deadline(table, filled, &stamps, width as usize),
-            slot: self.slot,
-            width,
-            filled,
-            numbers,
-            stamps,
+            deadline: grown.portrait(table).deadline(),
+            ..grown
         }
     }
 
@@ -90,12 +90,11 @@ impl<K: Kind> Row<K> {
     pub fn completed(&self, j: usize, arrival: &Arrival<K>) -> Line<K>
         ensures { (l : Loading K.G) (e : Seen K.G) → Standing K.Kind l self.now → Placeable K.group l (choice_of self.now) j e → Arrives K.Kind e arrival.now → line_of K.value result ≡ recognition e self.now.slot (choice_plus (choice_of self.now) j e) }
     {
-        let choice = numbers_with(&self.numbers, j, arrival.number);
         Line {
             letter: Letter::Recognised,
             slot: self.slot,
             width: self.width,
-            choice,
+            choice: replaced(&self.numbers, j, arrival.number),
             stamp: arrival.stamp,
         }
     }

@@ -8,6 +8,7 @@ ghost use Rattle.forks.specs.Wanting.{mask_of, Wants};
 
 use rows::filled::Filled;
 use slots::table::Slots;
+use std::array;
 use text::name::Name;
 
 // A set of variables for each of the slots 1 to 8.
@@ -34,16 +35,7 @@ impl Wanted {
         ensures { (s : ℕ) → 1 ≤ s → s ≤ 8 → Wants (types_in slots.now s) (spelled name.now) (mask_of result s) }
     {
         Wanted {
-            masks: [
-                mask(slots, 1, name),
-                mask(slots, 2, name),
-                mask(slots, 3, name),
-                mask(slots, 4, name),
-                mask(slots, 5, name),
-                mask(slots, 6, name),
-                mask(slots, 7, name),
-                mask(slots, 8, name),
-            ],
+            masks: array::from_fn(|i| mask(slots, i + 1, name)),
         }
     }
 
@@ -61,11 +53,6 @@ impl Wanted {
     pub fn is_none(&self) -> bool
         ensures { Decides result ((s j : ℕ) → 1 ≤ s → s ≤ 8 → is_in (mask_of self.now s) j ≡ false) }
     {
-        for slot in 1..9 {
-            if !self.of(slot).is_none() {
-                return false;
-            }
-        }
-        true
+        self.masks.iter().all(|mask| mask.is_none())
     }
 }

@@ -1,8 +1,10 @@
 -- The smallest element that something holds of, found one place after the other.
-use Rattle.std.proofs.Common.{◌≡◌, ℕ, ◌+◌, ◌<◌, true, ◌⊎◌, sym, refl, ◌∙◌, subst, inl, inr, ⊎_elim, arith}
+use Rattle.std.proofs.Common.{◌≡◌, ℕ, zero, suc, ◌+◌, ◌<◌, ◌≤◌, Bool, true, false, cond, ◌⊎◌, ◌∷◌, sym, refl, ap, ◌∙◌, subst, inl, inr, ⊎_elim, arith, filter}
+use Rattle.std.specs.List.{FoldsTo, range_with_len}
 use Rattle.std.proofs.lemmas.Bool.{false≢true, cases_lt}
 use Rattle.kinds.specs.Ordered.{Ordered}
-use Rattle.kinds.specs.declared.bound.Bound.{Bound}
+use Rattle.kinds.specs.Bounds.{meant}
+use Rattle.kinds.specs.declared.bound.Bound.{Bound, Bound as BoundOf}
 use Rattle.kinds.specs.declared.bound.Bound.TheVariants.{At, NoBound}
 use Rattle.network.specs.Steps.{Under, Lesser}
 use Rattle.network.proofs.Order.{under, under_trans, under_refl}
@@ -34,26 +36,47 @@ module _ {G : Type 0} (O : Ordered G) where
       (λ x e. ⊎_elim (λ s. on-p x (smallest_is P a small-a x (sym s ∙ e))) (λ s. on-q x (smallest_is Q b small_b x (sym s ∙ e))) low.one_of)
       (λ x r. ⊎_elim (λ p. under_trans O low.first (smallest_under P a small-a x p)) (λ q. under_trans O low.second (smallest_under Q b small_b x q)) (back x r))
 
-  module _ (F : ℕ → Type 0) (Q : ℕ → G → Type 0) where
-    -- Q holds at one of the first n places, one that F holds of
+  -- what is the smallest of P is the smallest of what holds of the same elements
+  pub same_smallest : (P R : G → Type 0) (b : Bound G) → ((x : G) → P x → R x) → ((x : G) → R x → P x) → Smallest O P b → Smallest O R b
+  same_smallest P R b on back = smallest_through P R b on (λ x r. (x, back x r, O.leq_refl x))
+
+  module _ (p : ℕ → Bool) (Q : ℕ → G → Type 0) where
+    -- Q holds at one of the first n places, one that passes the test
     abbrev pub Among : ℕ → G → Type 0
-    Among n x = (i : ℕ) × (i < n) × F i × Q i x
+    Among n x = (i : ℕ) × (i < n) × (p i ≡ true) × Q i x
 
-    pub among_none : Smallest O (Among 0) NoBound
-    among_none = λ x (i, h, f, q). omega arith
+    -- a fold over the places that pass takes the lesser of the smallest so far and the smallest at the next place
+    module _ {K F : Type 0} (value : K → G) (f : F) (turn : F × BoundOf K → ℕ → F × BoundOf K → Type 0) (n : ℕ)
+        (turns : (b : BoundOf K) (i : ℕ) (end : F × BoundOf K) → i < n → p i ≡ true → turn (f, b) i end → (end.0 ≡ f) × ((here : Bound G) × Smallest O (Q i) here × Lesser O (meant value b) here (meant value end.1))) where
+      -- so does a fold from place a on, where P holds of what was met before
+      abbrev From : ℕ → G → Type 0
+      From a x = (i : ℕ) × (a ≤ i) × (i < n) × (p i ≡ true) × Q i x
 
-    pub among_all : (m n : ℕ) → m ≡ n → (b : Bound G) → Smallest O (Among m) b → Smallest O (Among n) b
-    among_all m n e b = subst (λ n. Smallest O (Among n) b) e
+      abbrev Folded : ℕ → ℕ → Type 1
+      Folded m a = (P : G → Type 0) (b : BoundOf K) (end : F × BoundOf K) → Smallest O P (meant value b) → FoldsTo turn (f, b) (filter p (range_with_len a m)) end → Smallest O (λ x. P x ⊎ From a x) (meant value end.1)
 
-    module _ (n : ℕ) (b : Bound G) (sofar : Smallest O (Among n) b) where
-      one_more : (x : G) → Among n x → Among (n + 1) x
-      one_more x (i, h, f, q) = (i, omega arith, f, q)
+      one_turn : (m a : ℕ) → a < n → Folded m (a + 1) → Folded (suc m) a
+      one_turn m a inside rest P b end small = go (p a) refl
+        where
+          go : (t : Bool) → p a ≡ t → FoldsTo turn (f, b) (cond t (a ∷ filter p (range_with_len (a + 1) m)) (filter p (range_with_len (a + 1) m))) end → Smallest O (λ x. P x ⊎ From a x) (meant value end.1)
+          go false skipped folds = same_smallest (λ x. P x ⊎ From (a + 1) x) (λ x. P x ⊎ From a x) _
+              (λ x. ⊎_elim inl (λ (i, low, high, t, h). inr (i, omega arith, high, t, h)))
+              (λ x. ⊎_elim inl (λ (i, low, high, t, h). ⊎_elim (λ less. inr (i, omega arith, high, t, h)) (λ l. let s : i ≡ a = omega arith in absurd (false≢true (sym skipped ∙ ap p (sym s) ∙ t))) (cases_lt a i)))
+              (rest P b end small folds)
+          go true passes ((f', d), step, folds) =
+              let (kept, (here, least, low)) = turns b a (f', d) inside passes step in
+              same_smallest (λ x. (P x ⊎ Q a x) ⊎ From (a + 1) x) (λ x. P x ⊎ From a x) _
+              (λ x. ⊎_elim (⊎_elim inl (λ h. inr (a, omega arith, inside, passes, h))) (λ (i, low, high, t, h). inr (i, omega arith, high, t, h)))
+              (λ x. ⊎_elim (λ h. inl (inl h)) (λ (i, low, high, t, h). ⊎_elim (λ less. inr (i, omega arith, high, t, h)) (λ l. let s : i ≡ a = omega arith in inl (inr (subst (λ i. Q i x) s h))) (cases_lt a i)))
+              (rest (λ x. P x ⊎ Q a x) d end
+              (smallest_of_both P (Q a) (λ x. P x ⊎ Q a x) _ _ _ low small least (λ x. inl) (λ x. inr) (λ x h. h))
+              (subst (λ f. FoldsTo turn (f, d) (filter p (range_with_len (a + 1) m)) end) kept folds))
 
-      last_or_before : (x : G) → Among (n + 1) x → Among n x ⊎ (F n × Q n x)
-      last_or_before x (i, h, f, q) = ⊎_elim (λ l. inl (i, l, f, q)) (λ l. let e : i ≡ n = omega arith in inr (subst F e f, subst (λ j. Q j x) e q)) (cases_lt i n)
+      folded : (m a : ℕ) → a + m ≡ n → Folded m a
+      folded zero a e P b end = λ small is. same_smallest P (λ x. P x ⊎ From a x) _ (λ x. inl) (λ x. ⊎_elim (λ h. h) (λ (i, low, high, t, h). absurd (omega arith))) (subst (λ d. Smallest O P (meant value d.1)) is small)
+      folded (suc m) a e P b end = one_turn m a (omega arith) (folded m (a + 1) (omega arith)) P b end
 
-      pub among_skip : (F n → ⊥) → Smallest O (Among (n + 1)) b
-      among_skip none = smallest_through (Among n) (Among (n + 1)) b one_more (λ x r. (x, ⊎_elim (λ p. p) (λ (f, q). absurd (none f)) (last_or_before x r), O.leq_refl x)) sofar
-
-      pub among_more : F n → (c d : Bound G) → Smallest O (Q n) c → Lesser O b c d → Smallest O (Among (n + 1)) d
-      among_more f c d here low = smallest_of_both (Among n) (Q n) (Among (n + 1)) b c d low sofar here one_more (λ x q. (n, omega arith, f, q)) (λ x r. ⊎_elim inl (λ (f, q). inr q) (last_or_before x r))
+      pub fold_smallest : (end : F × BoundOf K) → FoldsTo turn (f, NoBound) (filter p (range_with_len 0 n)) end → Smallest O (Among n) (meant value end.1)
+      fold_smallest end folds = same_smallest (λ x. ⊥ ⊎ From 0 x) (Among n) _
+          (λ x. ⊎_elim absurd (λ (i, low, high, t, h). (i, high, t, h))) (λ x (i, high, t, h). inr (i, omega arith, high, t, h))
+          (folded n 0 (omega arith) (λ x. ⊥) NoBound end (λ x h. h) folds)

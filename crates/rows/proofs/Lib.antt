@@ -1,4 +1,5 @@
 pub mod Bits
+pub mod Places
 pub mod Least
 pub mod Sums
 pub mod Waiting

@@ -12,7 +12,8 @@ use Rattle.law.specs.Tests.{is_filled, ClosedBy, TestsDecide}
 use Rattle.law.proofs.Tests.{filled_is, open_is, is_filled_lem, is_open, tests_decide}
 use Rattle.rows.specs.Filled.{is_in, NoneOpen, FirstOpen}
 use Rattle.rows.specs.Placings.{loading_plus, choice_plus, Placeable, Placed, Allows}
-use Rattle.rows.specs.Portraits.{stamp_at, Portrays, ClosedTable}
+use Rattle.rows.specs.Portraits.{stamp_at, Portrays, ClosedTable, Depicts}
+use Rattle.rows.specs.declared.portrait.Portrait.{Portrait}
 use Rattle.rows.specs.declared.holding.Placing.TheVariants.{Fails, Grows, Ripens}
 use Rattle.rows.proofs.Growth.{passes_allows, allows_passes}
 
@@ -128,27 +129,35 @@ module _ {G : Type 0} (O : Ordered G) (l : Loading G) (k : List ℕ) (choice : C
       pub ripens : AllowsAll → ((i : ℕ) → i < width l → is_filled k' i ≡ true) → Placed O (loading_plus l e) k' e.seen.stamp Ripens
       ripens all full = (decide.recognised (λ i p. is_filled_lem k' i (full i p))).1 (passes all)
 
--- the same for a choice in memory: r says whether x, the stamp of the event, allows every variable
-module _ {K G : Type 0} (O : Ordered G) (value : K → G) (weight : G → ℕ) (l : Loading G) (k : List ℕ) (bits : ℕ) (stamps : List K) (n : ℕ) (row : Portrays O value weight l k bits stamps n)
-    (table : List (Bound K)) (by : ClosedTable O value weight l table) (j : ℕ) (e : Seen G) (new : Placeable O l k j e) (x : G) (is : e.seen.stamp ≡ x) (r : Bool)
-    (decides : Decides r ((i : ℕ) → i < width l → Allows O (entry value table) (is_filled k) (stamp_at O value stamps) x j i)) where
-  allows_own : Decides r (AllowsAll O l k row.choice j e new (stamp_at O value stamps) row.agrees (entry value table) by.closed)
-  allows_own = subst (λ x. Decides r ((i : ℕ) → i < width l → Allows O (entry value table) (is_filled k) (stamp_at O value stamps) x j i)) (sym is) decides
+-- the same for a portrait of the choice: r says whether x, the stamp of the event, allows every variable
+module _ {K G : Type 0} (O : Ordered G) (value : K → G) (weight : G → ℕ) (l : Loading G) (k : List ℕ) (p : Portrait K) (shown : Depicts O value weight l k p)
+    (j : ℕ) (e : Seen G) (new : Placeable O l k j e) (x : G) (is : e.seen.stamp ≡ x) (r : Bool)
+    (decides : Decides r ((i : ℕ) → i < width l → Allows O (entry value p.table.now) (is_filled k) (stamp_at O value p.stamps.now) x j i)) where
+  row : Portrays O value weight l k p.filled.bits p.stamps.now p.width
+  row = shown.portrays
+
+  by : ClosedTable O value weight l p.table.now
+  by = shown.closes
+
+  allows_own : Decides r (AllowsAll O l k row.choice j e new (stamp_at O value p.stamps.now) row.agrees (entry value p.table.now) by.closed)
+  allows_own = subst (λ x. Decides r ((i : ℕ) → i < width l → Allows O (entry value p.table.now) (is_filled k) (stamp_at O value p.stamps.now) x j i)) (sym is) decides
 
   pub place_fails : r ≡ false → Placed O (loading_plus l e) (choice_plus k j e) e.seen.stamp Fails
-  place_fails f = fails O l k row.choice j e new (stamp_at O value stamps) row.agrees (entry value table) by.closed (λ all. both_ways r f (allows_own.1 all))
+  place_fails f = fails O l k row.choice j e new (stamp_at O value p.stamps.now) row.agrees (entry value p.table.now) by.closed (λ all. both_ways r f (allows_own.1 all))
 
-  module _ (t : r ≡ true) (bits' : ℕ) (added : (i : ℕ) → is_in bits' i ≡ (is_in bits i || (eqb j i && ltb j 8))) where
-    pub place_grows : (i : ℕ) → FirstOpen bits' n i → Placed O (loading_plus l e) (choice_plus k j e) e.seen.stamp Grows
+  module _ (t : r ≡ true) (bits' : ℕ) (added : (i : ℕ) → is_in bits' i ≡ (is_in p.filled.bits i || (eqb j i && ltb j 8))) where
+    filled_now : (i : ℕ) → i < width l → is_in bits' i ≡ is_filled (choice_plus k j e) i
+    filled_now = bits_plus O l k row.choice j e new p.filled.bits bits' row.few row.filled added
+
+    pub place_grows : (i : ℕ) → FirstOpen bits' p.width i → Placed O (loading_plus l e) (choice_plus k j e) e.seen.stamp Grows
     place_grows i first =
-        let p : i < width l = omega (arith, row.wide, first.among) in
-        grows O l k row.choice j e new (stamp_at O value stamps) row.agrees (entry value table) by.closed (allows_own.0 t) i p
-        (sym (bits_plus O l k row.choice j e new bits bits' row.few row.filled added i p) ∙ first.is_open)
+        let h : i < width l = omega (arith, row.wide, first.among) in
+        grows O l k row.choice j e new (stamp_at O value p.stamps.now) row.agrees (entry value p.table.now) by.closed (allows_own.0 t) i h (sym (filled_now i h) ∙ first.is_open)
 
-    pub place_ripens : NoneOpen bits' n → Placed O (loading_plus l e) (choice_plus k j e) e.seen.stamp Ripens
+    pub place_ripens : NoneOpen bits' p.width → Placed O (loading_plus l e) (choice_plus k j e) e.seen.stamp Ripens
     place_ripens full =
-        ripens O l k row.choice j e new (stamp_at O value stamps) row.agrees (entry value table) by.closed (allows_own.0 t)
-        (λ i p. sym (bits_plus O l k row.choice j e new bits bits' row.few row.filled added i p) ∙ full i (omega (arith, row.wide)))
+        ripens O l k row.choice j e new (stamp_at O value p.stamps.now) row.agrees (entry value p.table.now) by.closed (allows_own.0 t)
+        (λ i h. sym (filled_now i h) ∙ full i (omega (arith, row.wide)))
 
 -- the choice with the event in memory: its bit and its stamp added
 module _ {K G : Type 0} (O : Ordered G) (value : K → G) (weight : G → ℕ) (l : Loading G) (k : List ℕ) (bits : ℕ) (stamps : List K) (n : ℕ) (row : Portrays O value weight l k bits stamps n)

@@ -8,6 +8,7 @@ use Rattle.law.specs.Histories.{Loading}
 use Rattle.law.specs.Holding.{width, Choice, Agrees}
 use Rattle.law.specs.Tests.{is_filled, ClosedBy}
 use Rattle.rows.specs.Filled.{is_in}
+use Rattle.rows.specs.declared.portrait.Portrait.{Portrait}
 
 module _ {K G : Type 0} (group : Ordered G) (value : K → G) where
   -- the stamp at a place in memory
@@ -30,3 +31,8 @@ module _ {K G : Type 0} (group : Ordered G) (value : K → G) where
       pub long : 64 ≤ length table
       pub closed : ClosedBy group l.chronicle (entry value table) (width l)
       pub light : (i j : ℕ) → i < width l → j < width l → weighs weight (entry value table i j) ≤ 256
+
+    -- a portrait depicts a choice of a loading: its bits and stamps portray the choice, and its table has the closed bounds
+    pub record Depicts (l : Loading G) (k : List ℕ) (p : Portrait K) : Type 0 where
+      pub portrays : Portrays l k p.filled.bits p.stamps.now p.width
+      pub closes : ClosedTable l p.table.now

@@ -15,7 +15,7 @@ fn first_bits(width: usize) -> u8
     }
 }
 
-#[derive(Clone, Copy)]
+#[derive(Clone, Copy, Debug, PartialEq, Eq)]
 pub struct Filled {
     bits: u8,
 }
@@ -64,6 +64,6 @@ impl Filled {
         ensures { MatchOption result (NoneOpen self.bits width) (FirstOpen self.bits width) }
     {
         let first = (!self.bits).trailing_zeros() as usize;
-        if first < width { Some(first) } else { None }
+        (first < width).then_some(first)
     }
 }

@@ -9,15 +9,14 @@ ghost use Rattle.law.specs.Holding.{width as width_of, HeldIn, Deadline};
 ghost use Rattle.law.specs.Tests.{is_filled, ClosedBy};
 ghost use Rattle.rows.specs.Filled.{is_in};
 ghost use Rattle.rows.specs.Placings.{loading_plus, choice_plus, Placeable, Placed, Allows};
-ghost use Rattle.rows.specs.Portraits.{stamp_at, Portrays, ClosedTable};
+ghost use Rattle.rows.specs.Portraits.{stamp_at, Depicts};
 
-use crate::filled::Filled;
-use crate::latest::{latest_after, stamp_of};
+use crate::portrait::Portrait;
 use kinds::bound::Bound;
 use kinds::kind::Kind;
 
 // What a new event makes of a row: nothing that can be completed, a row with something open, or a recognition.
-#[derive(Clone, Copy)]
+#[derive(Clone, Copy, Debug, PartialEq, Eq)]
 pub enum Placing {
     Fails,
     Grows,
@@ -31,72 +30,45 @@ pub fn stays_held<K: Kind>(deadline: &Bound<K>, moment: &K) -> bool
     Bound::At(*moment).at_most(deadline)
 }
 
-// What a variable's stamp comes to, with an event of that stamp as the last one: its own where it is filled, or else none before that.
-fn reached<K: Kind>(filled: Filled, stamps: &[K], stamp: &K, i: usize) -> K
-    ensures { i < length stamps.now → K.value result ≡ (if is_in filled.bits i then stamp_at K.group K.value stamps.now i else K.value stamp.now) }
-{
-    if !filled.has(i) {
-        return *stamp;
-    }
-    match stamp_of(stamps, i) {
-        Some(own) => own,
-        None => *stamp,
-    }
-}
-
-// Whether an event of that stamp at `from` allows variable `to` its stamp, or where that is open none before now.
-fn allows<K: Kind>(
-    table: &[Bound<K>],
-    filled: Filled,
-    stamps: &[K],
-    from: usize,
-    stamp: &K,
-    to: usize,
-) -> bool
-    ensures { Inside from to table.now → to < length stamps.now → K.weight (K.value stamp.now) + weighs K.weight (entry K.value table.now from to) ≤ 16777216 →
-        result ≡ at_most K.group (At (if is_in filled.bits to then stamp_at K.group K.value stamps.now to else K.value stamp.now)) (join K.group (At (K.value stamp.now)) (entry K.value table.now from to)) }
-{
-    let own = Bound::At(reached(filled, stamps, stamp, to));
-    own.at_most(&latest_after(table, from, stamp, to))
-}
-
-// Whether such an event allows every variable. Bounds towards it are met already, since its parent is alive.
-fn allows_all<K: Kind>(
-    table: &[Bound<K>],
-    filled: Filled,
-    stamps: &[K],
-    width: usize,
-    j: usize,
-    stamp: &K,
-) -> bool
-    ensures { (l : Loading K.G) (k : List ℕ) → Portrays K.group K.value K.weight l k filled.bits stamps.now width → ClosedTable K.group K.value K.weight l table.now → K.weight (K.value stamp.now) ≤ 256 → j < width_of l →
-        Decides result ((i : ℕ) → i < width_of l → Allows K.group (entry K.value table.now) (is_filled k) (stamp_at K.group K.value stamps.now) (K.value stamp.now) j i) }
-{
-    for i in 0..width {
-        if !allows(table, filled, stamps, j, stamp, i) {
-            return false;
+impl<'a, K: Kind> Portrait<'a, K> {
+    // What a variable's stamp comes to, with an event of that stamp as the last one: its own where it is filled, or else none before that.
+    fn reached(&self, stamp: &K, i: usize) -> K
+        ensures { i < length self.now.stamps.now → K.value result ≡ (if is_in self.now.filled.bits i then stamp_at K.group K.value self.now.stamps.now i else K.value stamp.now) }
+    {
+        if !self.filled.has(i) {
+            return *stamp;
         }
+        self.stamp_of(i).unwrap_or(*stamp)
     }
-    true
-}
 
-// Puts a new event of that stamp at the open variable j of a row that is alive at it.
-pub fn place<K: Kind>(
-    table: &[Bound<K>],
-    filled: Filled,
-    stamps: &[K],
-    width: usize,
-    j: usize,
-    stamp: &K,
-) -> Placing
-    ensures { (l : Loading K.G) (k : List ℕ) (e : Seen K.G) → Portrays K.group K.value K.weight l k filled.bits stamps.now width → ClosedTable K.group K.value K.weight l table.now → e.seen.stamp ≡ K.value stamp.now → K.weight (K.value stamp.now) ≤ 256 → Placeable K.group l k j e →
-        Placed K.group (loading_plus l e) (choice_plus k j e) e.seen.stamp result }
-{
-    if !allows_all(table, filled, stamps, width, j, stamp) {
-        return Placing::Fails;
+    // Whether an event of that stamp at `from` allows variable `to` its stamp, or where that is open none before now.
+    fn allows(&self, from: usize, stamp: &K, to: usize) -> bool
+        ensures { Inside from to self.now.table.now → to < length self.now.stamps.now → K.weight (K.value stamp.now) + weighs K.weight (entry K.value self.now.table.now from to) ≤ 16777216 →
+            result ≡ at_most K.group (At (if is_in self.now.filled.bits to then stamp_at K.group K.value self.now.stamps.now to else K.value stamp.now)) (join K.group (At (K.value stamp.now)) (entry K.value self.now.table.now from to)) }
+    {
+        let own = Bound::At(self.reached(stamp, to));
+        own.at_most(&self.latest_after(from, stamp, to))
     }
-    match filled.with(j).first_open(width) {
-        Some(_) => Placing::Grows,
-        None => Placing::Ripens,
+
+    // Whether such an event allows every variable. Bounds towards it are met already, since its parent is alive.
+    fn allows_all(&self, j: usize, stamp: &K) -> bool
+        ensures { (l : Loading K.G) (k : List ℕ) → Depicts K.group K.value K.weight l k self.now → K.weight (K.value stamp.now) ≤ 256 → j < width_of l →
+            Decides result ((i : ℕ) → i < width_of l → Allows K.group (entry K.value self.now.table.now) (is_filled k) (stamp_at K.group K.value self.now.stamps.now) (K.value stamp.now) j i) }
+    {
+        (0..self.width).all(|i| self.allows(j, stamp, i))
+    }
+
+    // Puts a new event of that stamp at the open variable j of a row that is alive at it.
+    pub fn place(&self, j: usize, stamp: &K) -> Placing
+        ensures { (l : Loading K.G) (k : List ℕ) (e : Seen K.G) → Depicts K.group K.value K.weight l k self.now → e.seen.stamp ≡ K.value stamp.now → K.weight (K.value stamp.now) ≤ 256 → Placeable K.group l k j e →
+            Placed K.group (loading_plus l e) (choice_plus k j e) e.seen.stamp result }
+    {
+        if !self.allows_all(j, stamp) {
+            return Placing::Fails;
+        }
+        match self.filled.with(j).first_open(self.width) {
+            Some(_) => Placing::Grows,
+            None => Placing::Ripens,
+        }
     }
 }

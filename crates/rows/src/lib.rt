@@ -4,5 +4,6 @@
 pub mod filled;
 pub mod holding;
 pub mod latest;
+pub mod portrait;
 #[cfg(test)]
 mod tests;

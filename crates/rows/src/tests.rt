@@ -1,7 +1,7 @@
 // Rows of few variables at their limits, for both kinds.
 use crate::filled::Filled;
-use crate::holding::{Placing, place, stays_held};
-use crate::latest::{deadline, latest};
+use crate::holding::{Placing, stays_held};
+use crate::portrait::Portrait;
 use kinds::bound::Bound;
 use kinds::pairs::Pairs;
 use kinds::ticks::{STAMP_LIMIT, Ticks};
@@ -30,19 +30,26 @@ fn deadlines_come_from_closed_bounds(rt: HostRuntime) -> Result<(), Fail> {
     let mut table = [Bound::NoBound; 64];
     jump(&rt, &mut table)?;
     let stamps = [Ticks { count: 100 }; 8];
-    let filled = Filled::none().with(0);
-    assert_eq!(rt; count_of(latest(&table, filled, &stamps, 3, 1)), Some(106));
-    assert_eq!(rt; count_of(latest(&table, filled, &stamps, 3, 2)), Some(105));
-    assert_eq!(rt; count_of(deadline(&table, filled, &stamps, 3)), Some(105));
-    assert_eq!(rt;
-        count_of(deadline(&table, filled.with(2), &stamps, 3)),
-        Some(106)
-    );
+    let row = Portrait {
+        table: &table,
+        filled: Filled::none().with(0),
+        stamps: &stamps,
+        width: 3,
+    };
+    assert_eq!(rt; count_of(row.latest(1)), Some(106));
+    assert_eq!(rt; count_of(row.latest(2)), Some(105));
+    assert_eq!(rt; count_of(row.deadline()), Some(105));
+    let more = Portrait {
+        filled: row.filled.with(2),
+        ..row
+    };
+    assert_eq!(rt; count_of(more.deadline()), Some(106));
     let last = [Ticks { count: STAMP_LIMIT }; 8];
-    assert_eq!(rt;
-        count_of(deadline(&table, filled, &last, 3)),
-        Some(STAMP_LIMIT + 5)
-    );
+    let late = Portrait {
+        stamps: &last,
+        ..row
+    };
+    assert_eq!(rt; count_of(late.deadline()), Some(STAMP_LIMIT + 5));
     Ok(())
 }
 
@@ -81,22 +88,16 @@ fn a_blank_row_has_no_deadline(rt: HostRuntime) -> Result<(), Fail> {
     let mut table = [Bound::NoBound; 64];
     jump(&rt, &mut table)?;
     let stamps = [Ticks { count: 0 }; 8];
-    assert_eq!(rt;
-        count_of(deadline(&table, Filled::none(), &stamps, 3)),
-        None
-    );
-    assert!(rt;
-        matches!(
-            place(&table, Filled::none(), &stamps, 3, 0, &Ticks { count: 100 }),
-            Placing::Grows
-        )
-    );
-    assert!(rt;
-        matches!(
-            place(&table, Filled::none(), &stamps, 1, 0, &Ticks { count: 100 }),
-            Placing::Ripens
-        )
-    );
+    let blank = Portrait {
+        table: &table,
+        filled: Filled::none(),
+        stamps: &stamps,
+        width: 3,
+    };
+    assert_eq!(rt; count_of(blank.deadline()), None);
+    assert_eq!(rt; blank.place(0, &Ticks { count: 100 }), Placing::Grows);
+    let narrow = Portrait { width: 1, ..blank };
+    assert_eq!(rt; narrow.place(0, &Ticks { count: 100 }), Placing::Ripens);
     Ok(())
 }
 
@@ -105,31 +106,20 @@ fn an_event_fails_where_an_open_variable_had_to_come_before(rt: HostRuntime) -> 
     let mut table = [Bound::NoBound; 64];
     jump(&rt, &mut table)?;
     let stamps = [Ticks { count: 100 }; 8];
-    let filled = Filled::none().with(0);
-    assert!(rt;
-        matches!(
-            place(&table, filled, &stamps, 3, 1, &Ticks { count: 103 }),
-            Placing::Fails
-        )
-    );
-    assert!(rt;
-        matches!(
-            place(&table, filled, &stamps, 3, 2, &Ticks { count: 103 }),
-            Placing::Grows
-        )
-    );
-    assert!(rt;
-        matches!(
-            place(&table, filled.with(2), &stamps, 3, 1, &Ticks { count: 101 }),
-            Placing::Ripens
-        )
-    );
-    assert!(rt;
-        matches!(
-            place(&table, filled.with(2), &stamps, 3, 1, &Ticks { count: 100 }),
-            Placing::Fails
-        )
-    );
+    let row = Portrait {
+        table: &table,
+        filled: Filled::none().with(0),
+        stamps: &stamps,
+        width: 3,
+    };
+    assert_eq!(rt; row.place(1, &Ticks { count: 103 }), Placing::Fails);
+    assert_eq!(rt; row.place(2, &Ticks { count: 103 }), Placing::Grows);
+    let more = Portrait {
+        filled: row.filled.with(2),
+        ..row
+    };
+    assert_eq!(rt; more.place(1, &Ticks { count: 101 }), Placing::Ripens);
+    assert_eq!(rt; more.place(1, &Ticks { count: 100 }), Placing::Fails);
     Ok(())
 }
 
@@ -140,29 +130,16 @@ fn an_event_fails_below_the_lower_bound_of_a_filled_pair(rt: HostRuntime) -> Res
     tighten(&mut table, 1, 0, Bound::At(Pairs { tick: 0, place: -1 }))?;
     close(&mut table, 2)?;
     let stamps = [Pairs { tick: 7, place: 4 }; 8];
-    let filled = Filled::none().with(0);
-    assert!(rt;
-        matches!(
-            place(&table, filled, &stamps, 2, 1, &Pairs { tick: 7, place: 4 }),
-            Placing::Fails
-        )
-    );
-    assert!(rt;
-        matches!(
-            place(&table, filled, &stamps, 2, 1, &Pairs { tick: 7, place: 5 }),
-            Placing::Ripens
-        )
-    );
-    match deadline(&table, filled, &stamps, 2) {
-        Bound::At(due) => {
-            assert!(rt; due.tick == 10 && due.place == 4);
-            Ok(())
-        },
-        Bound::NoBound => {
-            assert!(rt; false);
-            Ok(())
-        },
-    }
+    let row = Portrait {
+        table: &table,
+        filled: Filled::none().with(0),
+        stamps: &stamps,
+        width: 2,
+    };
+    assert_eq!(rt; row.place(1, &Pairs { tick: 7, place: 4 }), Placing::Fails);
+    assert_eq!(rt; row.place(1, &Pairs { tick: 7, place: 5 }), Placing::Ripens);
+    assert!(rt; matches!(row.deadline(), Bound::At(Pairs { tick: 10, place: 4 })));
+    Ok(())
 }
 
 #[test]

@@ -27,7 +27,7 @@ returns-in-Fails g c = (
   λ l e by.
       fails_put g.K.Kind l e c.args.table.now c.args.wanted.bits c.args.arrival.now c.args.parent.now by c.args.j
       (λ new. subst (Placed g.K.Kind.group (loading_plus l e) (choice_plus (choice_of c.args.parent.now) c.args.j e) e.seen.stamp) c.in-Fails.is
-      (c.place.ensures l (choice_of c.args.parent.now) e by.standing.portrays by.closed by.arrives.stamp by.arrives.light new)),
+      (c.place.ensures l (choice_of c.args.parent.now) e (c.portrait.ensures l (choice_of c.args.parent.now) by.standing.portrays by.closed) by.arrives.stamp by.arrives.light new)),
 )
 
 pub returns-in-Grows : goal.returns-in-Grows
@@ -41,7 +41,7 @@ returns-in-Grows g c = (
       let new = placeable g.K.Kind l e c.args.table.now c.args.wanted.bits c.args.arrival.now c.args.parent.now by c.args.j put in
       grows_put g.K.Kind l e c.args.table.now c.args.wanted.bits c.args.arrival.now c.args.parent.now by c.args.j put
       (subst (Placed g.K.Kind.group (loading_plus l e) (choice_plus (choice_of c.args.parent.now) c.args.j e) e.seen.stamp) c.in-Grows.is
-      (c.place.ensures l (choice_of c.args.parent.now) e by.standing.portrays by.closed by.arrives.stamp by.arrives.light new))
+      (c.place.ensures l (choice_of c.args.parent.now) e (c.portrait.ensures l (choice_of c.args.parent.now) by.standing.portrays by.closed) by.arrives.stamp by.arrives.light new))
       c.with.result (c.with.ensures l e by.standing by.closed new by.arrives),
 )
 
@@ -56,6 +56,6 @@ returns-in-Ripens g c = (
       let new = placeable g.K.Kind l e c.args.table.now c.args.wanted.bits c.args.arrival.now c.args.parent.now by c.args.j put in
       ripens_put g.K.Kind l e c.args.table.now c.args.wanted.bits c.args.arrival.now c.args.parent.now by c.args.j put
       (subst (Placed g.K.Kind.group (loading_plus l e) (choice_plus (choice_of c.args.parent.now) c.args.j e) e.seen.stamp) c.in-Ripens.is
-      (c.place.ensures l (choice_of c.args.parent.now) e by.standing.portrays by.closed by.arrives.stamp by.arrives.light new))
+      (c.place.ensures l (choice_of c.args.parent.now) e (c.portrait.ensures l (choice_of c.args.parent.now) by.standing.portrays by.closed) by.arrives.stamp by.arrives.light new))
       c.completed.result (c.completed.ensures l e by.standing new by.arrives),
 )

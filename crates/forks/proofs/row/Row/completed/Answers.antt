@@ -11,6 +11,6 @@ returns g c l e row new arrives =
     let self = c.args.self.now in
     let j = c.args.j in
     let few : j < 8 = omega (arith, new.inside, row.portrays.few) in
-    let choice : take self.width c.numbers_with-choice.result ≡ choice_plus (choice_of self) j e =
-    ap (take self.width) (c.numbers_with-choice.ensures few) ∙ take-set-lt self.width self.numbers j c.args.arrival.now.number (omega (arith, new.inside, row.portrays.wide)) ∙ ap (set (choice_of self) j) (sym arrives.number) in
+    let choice : take self.width c.replaced.result ≡ choice_plus (choice_of self) j e =
+    ap (take self.width) (c.replaced.ensures few) ∙ take-set-lt self.width self.numbers j c.args.arrival.now.number (omega (arith, new.inside, row.portrays.wide)) ∙ ap (set (choice_of self) j) (sym arrives.number) in
     λ i. record { letter = R; slot = self.slot; choice = choice i; stamp = sym arrives.stamp i }

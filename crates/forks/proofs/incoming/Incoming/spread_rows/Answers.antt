@@ -10,7 +10,7 @@ use Rattle.forks.proofs.Settling.{past_end, found_at, take_here}
 use Rattle.forks.proofs.Sinking.{sunk_none, sunk_more, sunk_as}
 use Rattle.forks.proofs.Spreading.{spread_none, spread_more}
 use Rattle.forks.proofs.Storing.{stored_nth}
-use Rattle.forks.proofs.spread.spread_rows.Goals as goal
+use Rattle.forks.proofs.incoming.Incoming.spread_rows.Goals as goal
 
 pub loop-i-init : goal.loop-i-init
 loop-i-init g c = sunk_none stored_adds g.L.Sink.adds c.args.rows.now c.args.lines.now _ (λ a e ready alive. spread_none g.K.Kind a e)
@@ -22,7 +22,7 @@ loop-i-preserved g c =
     let here : slice_get rows c.loop-i.i ≡ Some c.in-Some.row = sym (stored_nth c.args.rows.now c.loop-i.rows c.loop-i.invariant.0 c.loop-i.i c.loop-i.invariant.2 inside) ∙ sym c.get.ensures ∙ c.in-Some.is in
     sunk_more stored_adds g.L.Sink.adds c.args.rows.now c.loop-i.rows c.spread_one.new.rows c.args.lines.now c.loop-i.lines c.spread_one.new.lines _ _ _
     (λ born born' ripe ripe' old new a e ready alive.
-    subst (λ ps. Spread g.K.Kind a e ps (born ++ born') (ripe ++ ripe')) (sym (take_here g.K.Kind rows c.loop-i.i c.in-Some.row inside here (g.K.Kind.value c.args.arrival.now.stamp) row_of))
+    subst (λ ps. Spread g.K.Kind a e ps (born ++ born') (ripe ++ ripe')) (sym (take_here g.K.Kind rows c.loop-i.i c.in-Some.row inside here (g.K.Kind.value c.args.self.now.arrival.stamp) row_of))
     (spread_more g.K.Kind a e (map row_of (take c.loop-i.i rows)) (row_of c.in-Some.row) born born' ripe ripe' (old a e ready alive)
     (new a e ready (subst (Alive g.K.Kind a e) (found_at rows c.loop-i.i c.in-Some.row inside here) (All-get_or (Alive g.K.Kind a e) rows c.loop-i.i c.in-Some.row inside alive)))))
     c.loop-i.invariant c.spread_one.ensures

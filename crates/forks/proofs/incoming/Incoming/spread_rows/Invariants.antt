@@ -7,11 +7,11 @@ use Rattle.law.specs.Histories.{Act}
 use Rattle.forks.specs.Forks.{Sunk}
 use Rattle.forks.specs.Rows.{row_of}
 use Rattle.forks.specs.Spreads.{Ready, Alive, Spread}
-use Rattle.forks.proofs.spread.spread_rows.Given as goal
+use Rattle.forks.proofs.incoming.Incoming.spread_rows.Given as goal
 
 abbrev pub invariant-loop-i : goal.invariant-loop-i
 invariant-loop-i g l =
     let m = g.K.Kind in
     let rows = held l.initial.rows in
     Sunk stored g.L.Sink.took l.initial.rows l.rows l.initial.lines l.lines (λ born ripe.
-    (a : List (Act m.G)) (e : Event m.G) → Ready m a e l.entries l.wanted l.arrival → All (Alive m a e) rows → Spread m a e (map row_of (take l.i rows)) born ripe)
+    (a : List (Act m.G)) (e : Event m.G) → Ready m a e l.self → All (Alive m a e) rows → Spread m a e (map row_of (take l.i rows)) born ripe)

@@ -2,7 +2,7 @@ use Rattle.std.proofs.Common.{inl, inr, ⊎_elim, arith}
 use Rattle.std.proofs.lemmas.Bool.{cases_lt}
 use Rattle.forks.proofs.Beginning.{begun_none, begun_join, begun_as}
 use Rattle.forks.proofs.Sinking.{sunk_none, sunk_more, sunk_as}
-use Rattle.forks.proofs.spread.spread_slots.Goals as goal
+use Rattle.forks.proofs.incoming.Incoming.spread_slots.Goals as goal
 
 pub loop-slot-init : goal.loop-slot-init
 loop-slot-init g c = sunk_none g.R.Sink.adds g.L.Sink.adds c.args.rows.now c.args.lines.now _
