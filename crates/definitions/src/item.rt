@@ -39,6 +39,7 @@ fn read_small(text: &[u8], k: usize, place: Place) -> Result<usize, Fault>
     ensures some { IfOk result (λ n. 0 < n) }
 {
     let n = number(part(text, TAB, k), 1, 8, place)?;
+    // A conversion that may fail would name an error that cannot come.
     Ok(n as usize)
 }
 
@@ -76,7 +77,7 @@ fn read_limit<K: Kind>(text: &[u8], line: usize) -> Result<Item<K>, Fault>
     }))
 }
 
-// Line `line` of a definition: its word, the number of its fields, then the fields from the left.
+// What a line of a definition says: its word, the number of its fields, then the fields from the left.
 pub fn read_item<K: Kind>(text: &[u8], line: usize) -> Result<Item<K>, Fault>
     ensures { Says K.value (item_of K.fields K.means K.bound line (split 9 text.now)) result }
 {

@@ -9,7 +9,7 @@ mod methods;
 #[derive(Clone, Copy, Debug, PartialEq, Eq)]
 pub struct TypesFull;
 
-// A list of the library's own would take memory: the names fill a fixed array from the front.
+// The names fill a fixed array from the front: no list of the library's own, which would take memory.
 #[derive(Clone, Copy)]
 pub struct Types {
     names: [Option<Name>; 8],
