@@ -1,5 +1,5 @@
 -- What a call ends: just the rows held before it and not after, each with its line.
-use Rattle.std.proofs.Common.{◌≡◌, ℕ, ◌⊎◌, List, [], ◌∷◌, ◌++◌, sym, refl, ◌∙◌, subst, inl, inr, ⊎_elim, append-nil, arith}
+use Rattle.std.proofs.Common.{◌≡◌, ℕ, ◌⊎◌, List, [], ◌∷◌, ◌++◌, sym, refl, ◌∙◌, subst, inl, inr, ⊎_elim, append-nil}
 use Rattle.definitions.specs.Drafts.{Smallest}
 use Rattle.kinds.specs.Ordered.{Ordered}
 use Rattle.kinds.specs.declared.bound.Bound.TheVariants.{At}
