@@ -1,12 +1,15 @@
+use Rattle.std.proofs.Common.{◌≡◌, Bool, false, not, List, Some, None, Option, sym, subst, rules}
+use Rattle.std.specs.Prelude.{MatchOption}
 use Rattle.kinds.specs.declared.bound.Bound.TheVariants.{At}
+use Rattle.kinds.specs.declared.kind.Kind.{Ghosts as Meaning}
+use Rattle.forks.specs.declared.row.Row.{Row}
+use Rattle.deadlines.specs.Queues.{Next, AnyBefore}
 use Rattle.deadlines.proofs.Tops.{none_at_all, by_the_smallest}
 use Rattle.deadlines.proofs.of_rows.any_before.Goals as goal
 
-pub returns-in_default : goal.returns-in_default
-returns-in_default g c rs holds = none_at_all g.K.Kind rs (c.in_default.ensures rs holds) (At (g.K.Kind.value c.args.moment.now))
-
-pub returns-in_default-at : goal.returns-in_default-at
-returns-in_default-at g c rs holds = none_at_all g.K.Kind rs ((c.in-Some.ensures rs holds).0 c.in_default-at.is) (At (g.K.Kind.value c.args.moment.now))
+told : {K : Type 0} (kind : Meaning K) (rs : List (Row K)) (m : K) (first : Option K) (r : Bool) → MatchOption first (r ≡ false) (λ k. r ≡ not (kind.group.leq (kind.value m) (kind.value k))) → Next kind rs first → AnyBefore kind (At (kind.value m)) rs r
+told kind rs m None r is next = subst (AnyBefore kind (At (kind.value m)) rs) (sym is) (none_at_all kind rs next (At (kind.value m)))
+told kind rs m (Some k) r is next = by_the_smallest kind rs m k r is next
 
 pub returns : goal.returns
-returns g c rs holds = by_the_smallest g.K.Kind rs c.args.moment.now c.in-At.deadline c.is_before.result c.is_before.ensures ((c.in-Some.ensures rs holds).1 c.in-At.deadline c.in-At.is)
+returns g c rs holds = told g.K.Kind rs c.args.moment.now c.next.result c.is_some_and.result (search rules) (c.next.ensures rs holds)

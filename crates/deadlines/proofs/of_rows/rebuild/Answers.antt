@@ -1,19 +1,30 @@
-use Rattle.std.proofs.Common.{◌≤◌, length, sym, ap, ◌∙◌, subst, arith}
+use Rattle.std.proofs.Common.{◌≡◌, ◌+◌, ◌<◌, ◌≤◌, [], ◌∷◌, ◌++◌, length, get_or, take, sym, ap, ◌∙◌, subst, arith}
+use Rattle.std.proofs.lemmas.List.{take_all, take_more}
 use Rattle.lent.specs.Lists.{held}
-use Rattle.deadlines.proofs.Fills.{never_absent, appended_more, appended_all}
+use Rattle.deadlines.proofs.Fills.{Appended, appended_more, appended_all}
 use Rattle.deadlines.proofs.of_rows.rebuild.Goals as goal
 
-pub loop-i-preserved-in_default : goal.loop-i-preserved-in_default
-loop-i-preserved-in_default g c = absurd (never_absent (held c.args.rows.now) c.loop-i.i (omega arith) (sym c.in_default.ensures))
-
-pub loop-i-preserved : goal.loop-i-preserved
-loop-i-preserved g c = appended_more (held c.args.rows.now) c.loop-i.i c.clear.new.self c.loop-i.queue c.append.new.self c.in-Some.row c.append.result
-    (omega arith) c.in-Some.ensures c.append.ensures c.loop-i.invariant
+-- what the loop goes over is named nowhere: it is what the list holds
+pub loop-row-preserved : goal.loop-row-preserved
+loop-row-preserved g c =
+    let xs = held c.args.rows.now in
+    let i = c.loop-row.row-index in
+    let row = c.row-item.result in
+    let inside : i < length xs = grind arith in
+    let is : row ≡ get_or xs i row = cc in
+    let one_more : take (i + 1) xs ≡ take i xs ++ (row ∷ []) = take_more xs i row inside ∙ ap (λ r. take i xs ++ (r ∷ [])) (sym is) in
+    subst (λ rs. Appended rs c.clear.new.self c.append.new.self) (sym one_more)
+    (appended_more (take i xs) c.clear.new.self c.loop-row.queue c.append.new.self row c.append.result c.append.ensures c.loop-row.invariant)
 
 pub returns : goal.returns
-returns g c = record {
-  holds = λ fits.
-      appended_all g.K.Kind (held c.args.rows.now) c.loop-i.i c.clear.new.self c.loop-i.queue c.settle.new.self (omega arith) c.loop-i.invariant c.settle.ensures.shuffled c.settle.ensures.heaped
-      (subst (λ ms. length (held c.args.rows.now) ≤ length ms) (sym c.clear.ensures.memory) fits);
-  capacity = c.settle.ensures.capacity ∙ c.loop-i.invariant.capacity ∙ ap length c.clear.ensures.memory;
-}
+returns g c =
+    let xs = held c.args.rows.now in
+    let i = c.loop-row.row-index in
+    let past : length xs ≤ i = grind arith in
+    record {
+      holds = λ fits.
+          appended_all g.K.Kind xs c.clear.new.self c.loop-row.queue c.settle.new.self
+          (subst (λ rs. Appended rs c.clear.new.self c.loop-row.queue) (take_all i xs past) c.loop-row.invariant) c.settle.ensures.shuffled c.settle.ensures.heaped
+          (subst (λ ms. length xs ≤ length ms) (sym c.clear.ensures.memory) fits);
+      capacity = c.settle.ensures.capacity ∙ c.loop-row.invariant.capacity ∙ ap length c.clear.ensures.memory;
+    }
