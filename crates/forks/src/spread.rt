@@ -20,6 +20,7 @@ use report::line::Line;
 use slots::table::Slots;
 use std::marker::PhantomData;
 
+// The two sinks stay two parameters: in `spread_rows` one of them is the list that is walked over.
 impl<'a, K: Kind> Incoming<'a, K> {
     // What the event makes of one parent.
     pub fn spread_one<R: Sink<Row<K>>, L: Sink<Line<K>>>(
@@ -84,6 +85,7 @@ impl<'a, K: Kind> Incoming<'a, K> {
         if !slots.is_loaded(number) {
             return;
         }
+        // A usize has no `From` to a u8; at most 8, it is kept by the cast.
         let width = slots.width(number).min(8) as u8;
         let blank = Row::blank(slot, width, &self.arrival);
         self.spread_one(&blank, rows, lines);

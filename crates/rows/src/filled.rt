@@ -56,6 +56,7 @@ impl Filled {
     pub fn open_count(self, width: usize) -> usize
         ensures { result ≡ open_count self.bits width }
     {
+        // A u32 has no `From` to a usize, here and below.
         width - (self.bits & first_bits(width)).count_ones() as usize
     }
 
