@@ -1,17 +1,8 @@
--- Why a write to a part of a buffer is `pasted`, and what one writing after another is.
-use Rattle.std.proofs.Common.{◌≡◌, ℕ, ◌+◌, ◌≤◌, List, ◌++◌, length, take, drop, Some, sym, ap, ◌∙◌, arith}
-use borrow.Rule.Slice.PartMut.{put_mid}
+-- Two writings, one after the other.
+use Rattle.std.proofs.Common.{◌≡◌, ℕ, ◌+◌, ◌≤◌, List, ◌++◌, length, take, drop, sym, ap, ◌∙◌, arith}
 use Rattle.std.proofs.lemmas.List.{append_assoc, drop-drop, length-append, length-drop, length-take-le, take_at, drop_at}
 use Rattle.std.proofs.lemmas.Bool.{le-leb}
-use Rattle.text.specs.Writing.{place_after, pasted}
-
-module _ (was bytes : List ℕ) (i : ℕ) (h : i + length bytes ≤ length was) where
-  pub place_fits : Some (i + length bytes) ≡ place_after was i bytes
-  place_fits = rw (le-leb (i + length bytes) (length was) h)
-
-  pub pasted-fits : (ys : List ℕ) (k : ℕ) → ys ≡ bytes → k ≡ length bytes → put_mid i k was ys ≡ pasted was i bytes
-  pasted-fits ys k e l =
-      rw (le-leb (i + length bytes) (length was) h, e, l, drop-drop (length bytes) i was)
+use Rattle.text.specs.Writing.{pasted}
 
 -- what is written next to what was written before is one writing
 module _ (was xs ys : List ℕ) (i : ℕ) (h : i + length xs + length ys ≤ length was) where

@@ -1,6 +1,6 @@
 -- The laws of `split`: its first part and its rest, and that joining undoes it.
 use Rattle.std.proofs.Common.{◌≡◌, ℕ, suc, ◌+◌, ◌-◌, ◌<◌, ◌≤◌, true, false, not, eqb, List, [], ◌∷◌, ◌++◌, length, get_or, take, drop, sym, refl, ap, ◌∙◌, inl, inr, add-one, arith}
-use Rattle.std.proofs.lemmas.List.{take_all, length-drop, get_or-drop, take_rest}
+use Rattle.std.proofs.lemmas.List.{take_all, length-drop, take_rest}
 use Rattle.std.proofs.lemmas.Bool.{cases_Bool, eqb-true, and_parts, not-true, eq-eqb, cases_lt}
 use Rattle.std.specs.List.{AllByRecursion as All}
 use Rattle.text.specs.Split.{split, before, first_place, without, rejoined}
@@ -136,10 +136,3 @@ split-first b xs =
           ap (λ ps. get_or ps 0 []) (split_none b xs (omega (arith, place_within b xs)))
           ∙ sym (take_all (first_place b xs) xs g)
     ]
-
--- the first part of what is left from part k on is part k
-pub part-first :
-    (b : ℕ) (xs rest : List ℕ) (k : ℕ) → split b rest ≡ drop k (split b xs) →
-    get_or (split b rest) 0 [] ≡ get_or (split b xs) k []
-part-first b xs rest k found =
-    ap (λ ps. get_or ps 0 []) found ∙ get_or-drop k (split b xs) 0 [] ∙ ap (λ n. get_or (split b xs) n []) (omega arith)

@@ -1,11 +1,7 @@
 use Rattle.std.proofs.Common.{true, false, Err, sym, ap, ◌∙◌, arith}
-use Rattle.std.proofs.lemmas.Bool.{eqb-true, eqb-false}
-use Rattle.text.proofs.FirstLines.{line_missing, line-open, line-ended}
+use Rattle.std.proofs.lemmas.Bool.{eqb-false}
+use Rattle.text.proofs.FirstLines.{line-open, line-ended}
 use Rattle.text.proofs.lines.first_line.Goals as goal
-
-pub returns-then-is_empty : goal.returns-then-is_empty
-returns-then-is_empty c =
-    line_missing c.args.number c.args.text.now (eqb-true _ 0 (sym c.is_empty.ensures ∙ c.if-is_empty.true)) ∙ ap Err (sym c.fault.ensures)
 
 pub returns-then-end-text : goal.returns-then-end-text
 returns-then-end-text c =

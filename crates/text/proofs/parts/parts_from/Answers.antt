@@ -1,17 +1,18 @@
-use Rattle.std.proofs.Common.{◌≡◌, ◌-◌, [], sym, refl, arith, length-drop, length-take}
+use Rattle.std.proofs.Common.{◌-◌, [], sym, arith, length-drop, length-take}
 use Rattle.std.proofs.lemmas.List.{get_or_past}
 use Rattle.text.specs.Split.{split}
-use Rattle.text.proofs.Splits.{no_part_left, next-part-at, part_found, part_there, part-first}
+use Rattle.text.proofs.Splits.{no_part_left, next-part-at, part_there}
 use Rattle.text.proofs.parts.parts_from.Goals as goal
 
-pub returns-then-end-rest : goal.returns-then-end-rest
-returns-then-end-rest c =
-    let h = no_part_left c.args.b c.args.bytes.now c.loop.rest.now (c.args.k - c.loop.counter) c.args.k c.loop.invariant.0 (omega arith) (omega arith) in
-    record {
-      rest = λ l. absurd (omega arith);
-      first = sym (get_or_past (split c.args.b c.args.bytes.now) c.args.k [] h);
-      past = λ _. refl;
-    }
+pub returns-then-end-rest-clause-rest : goal.returns-then-end-rest-clause-rest
+returns-then-end-rest-clause-rest c =
+    let none = no_part_left c.args.b c.args.bytes.now c.loop.rest.now (c.args.k - c.loop.counter) c.args.k c.loop.invariant.0 (omega arith) (omega arith) in
+    λ l. absurd (omega arith)
+
+pub returns-then-end-rest-clause-first : goal.returns-then-end-rest-clause-first
+returns-then-end-rest-clause-first c =
+    let none = no_part_left c.args.b c.args.bytes.now c.loop.rest.now (c.args.k - c.loop.counter) c.args.k c.loop.invariant.0 (omega arith) (omega arith) in
+    sym (get_or_past (split c.args.b c.args.bytes.now) c.args.k [] none)
 
 pub loop-preserved : goal.loop-preserved
 loop-preserved c = (
@@ -20,13 +21,7 @@ loop-preserved c = (
   simp (length-take, length-drop) (omega arith),
 )
 
-pub returns : goal.returns
-returns c =
-    let none_left : c.args.k - c.loop.counter ≡ 0 = omega arith in
-    let found = part_found c.args.b c.args.bytes.now c.loop.rest.now (c.args.k - c.loop.counter) c.args.k c.loop.invariant.0 none_left in
-    let there = part_there c.args.b c.args.bytes.now c.loop.rest.now (c.args.k - c.loop.counter) c.args.k c.loop.invariant.0 none_left in
-    record {
-      rest = λ h. found;
-      first = part-first c.args.b c.args.bytes.now c.loop.rest.now c.args.k found;
-      past = λ h. absurd (omega arith);
-    }
+pub returns-clause-past : goal.returns-clause-past
+returns-clause-past c =
+    let there = part_there c.args.b c.args.bytes.now c.loop.rest.now (c.args.k - c.loop.counter) c.args.k c.loop.invariant.0 (omega arith) in
+    λ h. absurd (omega arith)
