@@ -103,9 +103,6 @@ module _ {K G : Type 0} (O : Ordered G) (value : K → G) (weight : G → ℕ) {
       kept = sofar.kept;
     }
 
-  pub ran_all : (t u : List (Bound K)) → Running O value weight n n t u → Ran O value weight n t u (Ok tt)
-  ran_all t u sofar = record { outcome = λ M start light. (sofar.going M start light).0; kept = sofar.kept }
-
   pub stays_light : (t u : List (Bound K)) → Running O value weight n n t u → StaysLight O value weight n t u (Ok tt)
   stays_light t u sofar M start light =
       let small : 2 ^ n ≤ 2 ^ 8 = pow_mono {i = n} {j = 8} n≤8 in
