@@ -6,7 +6,7 @@ use kinds::kind::Kind;
 use queue::ranked::Ranked;
 
 // The smallest deadline first; an absent one comes after all others.
-#[derive(Clone, Copy)]
+#[derive(Clone, Copy, Debug, PartialEq, Eq)]
 pub struct Due<K> {
     pub at: Bound<K>,
 }
