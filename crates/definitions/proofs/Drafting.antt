@@ -4,7 +4,7 @@ use Rattle.std.proofs.lemmas.List.{length_push}
 use Rattle.std.proofs.lemmas.Bool.{false≢true, cases_eq, and_from, and_parts, ltb-true, lt-ltb, ne_eqb, not_from_false}
 use Rattle.text.specs.declared.fault.Fault.{Fault}
 use Rattle.kinds.specs.Ordered.{Ordered}
-use Rattle.kinds.specs.Bounds.{at_most, meant}
+use Rattle.kinds.specs.Bounds.{at_most, meant, Smallest}
 use Rattle.kinds.specs.declared.bound.Bound.{Bound}
 use Rattle.kinds.specs.declared.bound.Bound.TheVariants.{At, NoBound}
 use Rattle.network.specs.Tables.{cell, entry}
@@ -13,7 +13,7 @@ use Rattle.definitions.specs.declared.draft.Draft.{Draft}
 use Rattle.definitions.specs.Chronicles.{Limit, Chronicle, Given}
 use Rattle.definitions.specs.Reading.{is_pair}
 use Rattle.definitions.specs.TypeNames.{type_names}
-use Rattle.definitions.specs.Drafts.{Smallest, Holds, Drafted, Agrees}
+use Rattle.definitions.specs.Drafts.{Holds, Drafted, Agrees}
 
 module _ {G : Type 0} (l : Limit G) (i j : ℕ) (c : G) where
   pub given_push : (ls : List (Limit G)) → Given (ls ++ (l ∷ [])) i j c → Given ls i j c ⊎ ((l.from ≡ i) × (l.to ≡ j) × (l.most ≡ c))

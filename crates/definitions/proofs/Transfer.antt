@@ -5,7 +5,7 @@ use Rattle.text.specs.declared.fault.Cause.TheVariants.{Contradictory as Contrad
 use Rattle.text.specs.declared.fault.Fault.{Fault}
 use Rattle.text.specs.Faults.{fault_at}
 use Rattle.kinds.specs.Ordered.{Ordered}
-use Rattle.kinds.specs.Bounds.{admits}
+use Rattle.kinds.specs.Bounds.{admits, Smallest}
 use Rattle.kinds.specs.declared.bound.Bound.{Bound}
 use Rattle.kinds.specs.declared.bound.Bound.TheVariants.{At, NoBound}
 use Rattle.network.specs.Chains.{Chain, Closed, Contradictory}
@@ -16,7 +16,7 @@ use Rattle.network.specs.declared.closing.Unclosed.TheVariants.{OutOfRange, NotA
 use Rattle.network.proofs.Order.{plus_mono}
 use Rattle.definitions.specs.Chronicles.{Chronicle, Given}
 use Rattle.definitions.specs.declared.reader.Definition.{Definition}
-use Rattle.definitions.specs.Drafts.{Smallest, Held}
+use Rattle.definitions.specs.Drafts.{Held}
 use Rattle.definitions.specs.Loading.{TooShort, Loads}
 use Rattle.definitions.specs.Reading.{Reading}
 use Rattle.definitions.specs.Steps.{Parses}

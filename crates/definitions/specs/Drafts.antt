@@ -1,6 +1,7 @@
 -- What the code holds of a chronicle that is being read, beside the chronicle itself.
 use Rattle.std.specs.Prelude.{◌≡◌, ℕ, ◌<◌, ◌≤◌, Bool, true, List, length, Ok, Err, Result, slice_index_or}
 use Rattle.text.specs.declared.fault.Fault.{Fault}
+use Rattle.kinds.specs.Bounds.{Smallest}
 use Rattle.kinds.specs.Ordered.{Ordered}
 use Rattle.kinds.specs.declared.bound.Bound.{Bound}
 use Rattle.kinds.specs.declared.bound.Bound.TheVariants.{At, NoBound}
@@ -9,11 +10,6 @@ use Rattle.definitions.specs.declared.draft.Draft.{Draft}
 use Rattle.definitions.specs.Chronicles.{Limit, Chronicle, Said, Given}
 use Rattle.definitions.specs.Chronicles.Said.{opening, variable, limit, closing}
 use Rattle.definitions.specs.TypeNames.{type_names}
-
--- the smallest element that P holds of, or none
-abbrev pub Smallest : {G : Type 0} → Ordered G → (G → Type 0) → Bound G → Type 0
-Smallest {G} group P (At x) = P x × ((c : G) → P c → group.leq x c ≡ true)
-Smallest {G} group P NoBound = (c : G) → P c → ⊥
 
 module _ {K G : Type 0} (group : Ordered G) (value : K → G) where
   -- between each two of eight variables the table has the smallest bound given

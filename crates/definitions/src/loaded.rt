@@ -17,7 +17,7 @@ impl Loaded {
     pub fn load(&mut self, slot: usize)
         ensures { self.new.0 ≡ (if nat_lt 0 slot && nat_le slot 8 then slice_set self.old.0 (slot - 1) true else self.old.0) }
     {
-        if slot >= 1 && slot <= 8 {
+        if (1..=8).contains(&slot) {
             self.0[slot - 1] = true;
         }
     }

@@ -25,7 +25,7 @@ use text::fault::{Cause, Fault, Place};
 use text::lines::line_at;
 
 // A definition that was read: its slot, the type names of its variables, the number of its bounds, its lines and bytes.
-#[derive(Clone, Copy)]
+#[derive(Clone, Copy, Debug, PartialEq, Eq)]
 pub struct Definition {
     pub slot: usize,
     pub types: Types,

@@ -10,7 +10,7 @@ mod methods;
 pub struct TypesFull;
 
 // The names fill a fixed array from the front: no list of the library's own, which would take memory.
-#[derive(Clone, Copy)]
+#[derive(Clone, Copy, Debug, PartialEq, Eq)]
 pub struct Types {
     names: [Option<Name>; 8],
     count: usize,

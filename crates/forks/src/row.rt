@@ -16,7 +16,7 @@ use rows::holding::stays_held;
 use rows::portrait::Portrait;
 
 // The deadline first: it is what most scans look at.
-#[derive(Clone, Copy)]
+#[derive(Clone, Copy, Debug, PartialEq, Eq)]
 pub struct Row<K> {
     pub deadline: Bound<K>,
     pub slot: u8,
@@ -27,7 +27,7 @@ pub struct Row<K> {
 }
 
 // An accepted event, by its number and stamp.
-#[derive(Clone, Copy)]
+#[derive(Clone, Copy, Debug, PartialEq, Eq)]
 pub struct Arrival<K> {
     pub number: u32,
     pub stamp: K,

@@ -12,7 +12,7 @@ use std::array;
 use text::name::Name;
 
 // A set of variables for each of the slots 1 to 8.
-#[derive(Clone, Copy)]
+#[derive(Clone, Copy, Debug, PartialEq, Eq)]
 pub struct Wanted {
     masks: [Filled; 8],
 }
@@ -22,6 +22,7 @@ fn mask<'a>(slots: &'a Slots, slot: usize, name: &Name) -> Filled
     ensures { Wants (types_in slots.now slot) (spelled name.now) result.bits }
 {
     let mut all = Filled::none();
+    // A fold over a filter would hide in two closures what one line says here.
     for j in 0..8 {
         if slots.has_type(slot, j, name) {
             all = all.with(j);
@@ -43,10 +44,10 @@ impl Wanted {
     pub fn of(&self, slot: usize) -> Filled
         ensures { (j : ℕ) → is_in result.bits j ≡ is_in (mask_of self.now slot) j }
     {
-        if slot < 1 || slot > 8 {
-            return Filled::none();
-        }
-        self.masks[slot - 1]
+        slot.checked_sub(1)
+            .and_then(|at| self.masks.get(at))
+            .copied()
+            .unwrap_or(Filled::none())
     }
 
     // Whether no variable of any slot is of the type.

@@ -1,5 +1,5 @@
 -- A bound is an element or 'no bound', which lies above every element and swallows whatever is added to it.
-use Rattle.std.specs.Prelude.{ℕ, Bool, true, false}
+use Rattle.std.specs.Prelude.{◌≡◌, ℕ, Bool, true, false}
 use Rattle.kinds.specs.declared.bound.Bound.{Bound}
 use Rattle.kinds.specs.declared.bound.Bound.TheVariants.{At, NoBound}
 use Rattle.kinds.specs.Ordered.{Ordered}
@@ -30,3 +30,8 @@ weighs weight NoBound = 0
 abbrev pub meant : {K G : Type 0} → (K → G) → Bound K → Bound G
 meant value (At k) = At (value k)
 meant value NoBound = NoBound
+
+-- the smallest element that P holds of, or no bound where it holds of none
+abbrev pub Smallest : {G : Type 0} → Ordered G → (G → Type 0) → Bound G → Type 0
+Smallest {G} group P (At x) = P x × ((c : G) → P c → group.leq x c ≡ true)
+Smallest {G} group P NoBound = (c : G) → P c → ⊥

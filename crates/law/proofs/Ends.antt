@@ -1,6 +1,6 @@
 -- What a call ends: just the rows held before it and not after, each with its line.
 use Rattle.std.proofs.Common.{◌≡◌, ℕ, ◌⊎◌, List, [], ◌∷◌, ◌++◌, sym, refl, ◌∙◌, subst, inl, inr, ⊎_elim, append-nil}
-use Rattle.definitions.specs.Drafts.{Smallest}
+use Rattle.kinds.specs.Bounds.{Smallest}
 use Rattle.kinds.specs.Ordered.{Ordered}
 use Rattle.kinds.specs.declared.bound.Bound.TheVariants.{At}
 use Rattle.law.specs.Bags.{Exactly}

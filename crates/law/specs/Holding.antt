@@ -4,7 +4,7 @@ use Rattle.kinds.specs.Ordered.{Ordered}
 use Rattle.kinds.specs.declared.bound.Bound.{Bound}
 use Rattle.network.specs.Chains.{Chain}
 use Rattle.definitions.specs.Chronicles.{Given}
-use Rattle.definitions.specs.Drafts.{Smallest}
+use Rattle.kinds.specs.Bounds.{Smallest}
 use Rattle.law.specs.Bags.{◌∈◌}
 use Rattle.law.specs.Histories.{Act, Seen, Loading, now_of, loading_of}
 use Rattle.law.specs.Schedules.{Meets}

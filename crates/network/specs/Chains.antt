@@ -1,5 +1,6 @@
 -- Chains of given bounds, the smallest sum over them, and what contradicts.
 use Rattle.std.specs.Prelude.{◌≡◌, ℕ, true, false}
+use Rattle.kinds.specs.Bounds.{Smallest}
 use Rattle.kinds.specs.Ordered.{Ordered}
 use Rattle.kinds.specs.declared.bound.Bound.{Bound}
 use Rattle.kinds.specs.declared.bound.Bound.TheVariants.{At, NoBound}
@@ -12,8 +13,7 @@ pub data Chain {G : Type 0} (group : Ordered G) (Given : ℕ → ℕ → G → T
 module _ {G : Type 0} (group : Ordered G) (Given : ℕ → ℕ → G → Type 0) where
   -- the closed bound from i to j: the smallest sum over all chains, or none where there is no chain
   abbrev pub Closed : ℕ → ℕ → Bound G → Type 0
-  Closed i j (At x) = Chain group Given i j x × ((s : G) → Chain group Given i j s → group.leq x s ≡ true)
-  Closed i j NoBound = (s : G) → Chain group Given i j s → ⊥
+  Closed i j bound = Smallest group (Chain group Given i j) bound
 
   -- some cycle sums below zero
   abbrev pub Contradictory : Type 0

@@ -3,12 +3,11 @@ use Rattle.std.proofs.Common.{◌≡◌, ℕ, zero, suc, ◌+◌, ◌<◌, ◌�
 use Rattle.std.specs.List.{FoldsTo, range_with_len}
 use Rattle.std.proofs.lemmas.Bool.{false≢true, cases_lt}
 use Rattle.kinds.specs.Ordered.{Ordered}
-use Rattle.kinds.specs.Bounds.{meant}
+use Rattle.kinds.specs.Bounds.{meant, Smallest}
 use Rattle.kinds.specs.declared.bound.Bound.{Bound, Bound as BoundOf}
 use Rattle.kinds.specs.declared.bound.Bound.TheVariants.{At, NoBound}
 use Rattle.network.specs.Steps.{Under, Lesser}
 use Rattle.network.proofs.Order.{under, under_trans, under_refl}
-use Rattle.definitions.specs.Drafts.{Smallest}
 
 module _ {G : Type 0} (O : Ordered G) where
   smallest_from : (P : G → Type 0) (b : Bound G) → ((x : G) → b ≡ At x → P x) → ((x : G) → P x → Under O b (At x)) → Smallest O P b

@@ -1,7 +1,7 @@
 -- From the sums of stamps and closed bounds to latest stamps, by which chain whatever.
 use Rattle.std.proofs.Common.{◌≡◌, ℕ, ◌+◌, ◌<◌, ◌≤◌, Bool, true, false, cond, not, List, length, MatchBool, Decides, sym, refl, ap, ◌∙◌, subst, arith}
 use Rattle.std.proofs.lemmas.Bool.{false≢true, not-true, not_from_false}
-use Rattle.kinds.specs.Bounds.{at_most, join, weighs}
+use Rattle.kinds.specs.Bounds.{at_most, join, weighs, Smallest}
 use Rattle.kinds.specs.Ordered.{Ordered}
 use Rattle.kinds.specs.declared.bound.Bound.{Bound}
 use Rattle.kinds.specs.declared.bound.Bound.TheVariants.{At, NoBound}
@@ -10,7 +10,6 @@ use Rattle.network.specs.Steps.{Under}
 use Rattle.network.specs.Tables.{entry, Inside}
 use Rattle.network.proofs.Order.{under_refl, join_mono}
 use Rattle.definitions.specs.Chronicles.{Given}
-use Rattle.definitions.specs.Drafts.{Smallest}
 use Rattle.law.specs.Histories.{Loading}
 use Rattle.law.specs.Holding.{width, Latest, Deadline}
 use Rattle.law.specs.Tests.{is_filled}

@@ -1,10 +1,9 @@
 // The latest stamps that the open variables of a row can have, and its deadline, the smallest of them.
 ghost use Rattle.std.specs.Prelude.{◌≡◌, ℕ, ◌+◌, ◌<◌, ◌≤◌, List, length, MatchOption};
-ghost use Rattle.kinds.specs.Bounds.{join, meant, weighs};
+ghost use Rattle.kinds.specs.Bounds.{join, meant, weighs, Smallest};
 ghost use Rattle.kinds.specs.declared.bound.Bound.TheVariants.{At};
 ghost use Rattle.network.specs.Steps.{Lesser};
 ghost use Rattle.network.specs.Tables.{entry, Inside};
-ghost use Rattle.definitions.specs.Drafts.{Smallest};
 ghost use Rattle.law.specs.Histories.{Loading};
 ghost use Rattle.law.specs.Holding.{width as width_of, Latest, Deadline};
 ghost use Rattle.rows.specs.Portraits.{stamp_at, Depicts};

@@ -7,7 +7,7 @@ ghost use Rattle.slots.specs.Variables.{types_of, width, HasType};
 use definitions::types::Types;
 use text::name::Name;
 
-#[derive(Clone, Copy)]
+#[derive(Clone, Copy, Debug, PartialEq, Eq)]
 pub struct Slot {
     types: Option<Types>,
 }

@@ -13,7 +13,7 @@ use text::name::Name;
 
 pub const SLOTS: usize = 8;
 
-#[derive(Drop)]
+#[derive(Debug, Drop, PartialEq, Eq)]
 pub struct Slots {
     records: [Slot; 8],
 }

@@ -14,7 +14,7 @@ use text::fault::Fault;
 use text::lines::line_at;
 
 /// What comes next, how many lines were read, and where the line after them begins.
-#[derive(Clone, Copy)]
+#[derive(Clone, Copy, Debug, PartialEq, Eq)]
 pub struct Ahead<K> {
     pub next: Next<K>,
     pub lines: usize,
@@ -22,7 +22,7 @@ pub struct Ahead<K> {
 }
 
 /// A record, and where the line after its own begins.
-#[derive(Clone, Copy)]
+#[derive(Clone, Copy, Debug, PartialEq, Eq)]
 pub struct Lined<K> {
     record: Record<K>,
     end: usize,

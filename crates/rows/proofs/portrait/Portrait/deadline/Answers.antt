@@ -1,8 +1,7 @@
 use Rattle.std.proofs.Common.{◌<◌, not, arith, rules, tests}
 use Rattle.std.proofs.lemmas.Iterator.{YieldsList-from_range}
 use Rattle.std.proofs.lemmas.Iterator.Consumers.{YieldsList-from_filter}
-use Rattle.definitions.specs.Drafts.{Smallest}
-use Rattle.kinds.specs.Bounds.{meant}
+use Rattle.kinds.specs.Bounds.{Smallest, meant}
 use Rattle.kinds.specs.declared.bound.Bound.{Bound}
 use Rattle.law.specs.Holding.{width, Latest}
 use Rattle.network.specs.Steps.{Lesser}
