@@ -9,11 +9,11 @@ use kinds::bound::Bound;
 use kinds::ticks::Ticks;
 use network::table::bound_between;
 use std::io;
-use text::fault::Fault;
 
 const PATH: &str = "chronicles.txt";
 
 fn print_variables(rt: &HostRuntime, definition: &Definition) -> io::Result<()> {
+    // The number is what is printed.
     for i in 0..definition.types.len() {
         if let Some(name) = definition.types.get(i) {
             println!(rt; "VAR\t{}\t{name}", i + 1)?;
@@ -23,14 +23,13 @@ fn print_variables(rt: &HostRuntime, definition: &Definition) -> io::Result<()> 
 }
 
 fn print_row(rt: &HostRuntime, table: &[Bound<Ticks>], i: usize, width: usize) -> io::Result<()> {
-    for j in 0..width {
+    // The numbers are what is printed, here and over the rows.
+    for j in (0..width).filter(|j| *j != i) {
         if let Some(Bound::At(most)) = bound_between(table, i, j) {
-            if i != j {
-                let from = i.saturating_add(1);
-                let to = j.saturating_add(1);
-                let c = most.count;
-                println!(rt; "CLOSED\t{from}\t{to}\t{c}")?;
-            }
+            let from = i.saturating_add(1);
+            let to = j.saturating_add(1);
+            let c = most.count;
+            println!(rt; "CLOSED\t{from}\t{to}\t{c}")?;
         }
     }
     Ok(())
@@ -51,10 +50,6 @@ fn print_definition(
     Ok(())
 }
 
-fn print_fault(rt: &HostRuntime, fault: &Fault) -> io::Result<()> {
-    println!(rt; "ERR\t{fault}")
-}
-
 // The definitions one after another, each into a slot of its own, up to one that is refused.
 fn close_all(rt: &HostRuntime, text: &[u8]) -> anyhow::Result<()> {
     let mut loaded = Loaded([false; 8]);
@@ -70,7 +65,7 @@ fn close_all(rt: &HostRuntime, text: &[u8]) -> anyhow::Result<()> {
                 count = count.saturating_add(1);
             }
             Err(fault) => {
-                print_fault(rt, &fault)?;
+                println!(rt; "ERR\t{fault}")?;
                 return Err(anyhow!("a definition is refused"));
             }
         }

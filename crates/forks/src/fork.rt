@@ -45,6 +45,7 @@ pub fn fork<K: Kind, R: Sink<Row<K>>, L: Sink<Line<K>>>(
 )
     ensures { Sunk R.Sink.took L.Sink.took rows.old rows.new lines.old lines.new (λ born ripe. (l : Loading K.G) (e : Seen K.G) → Parent K.Kind l e table.now wanted.bits arrival.now parent.now → Forked K.Kind l e (Put l (choice_of parent.now) e) parent.now.slot born ripe) }
 {
+    // By number: an open variable has nothing else.
     for j in 0..usize::from(parent.width) {
         fork_at(parent, table, wanted, arrival, j, rows, lines);
     }

@@ -15,7 +15,8 @@ use rows::filled::Filled;
 use rows::holding::stays_held;
 use rows::portrait::Portrait;
 
-// The deadline first: it is what most scans look at.
+// The deadline first: it is what most scans look at. Numbers and stamps are two arrays, since pairs of them would take more
+// memory, and a row is to be small.
 #[derive(Clone, Copy, Debug, PartialEq, Eq)]
 pub struct Row<K> {
     pub deadline: Bound<K>,

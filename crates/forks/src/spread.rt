@@ -101,6 +101,7 @@ impl<'a, K: Kind> Incoming<'a, K> {
     )
         ensures { Sunk R.Sink.took L.Sink.took rows.old rows.new lines.old lines.new (λ born ripe. (a : List (Act K.G)) (e : Event K.G) → Ready K.Kind a e self.now → Loaded a slots.now → Begun K.Kind a e (λ r. Unit {0}) born ripe) }
     {
+        // By number: an empty slot has nothing else.
         for slot in 1..9u8 {
             self.spread_slot(slots, slot, rows, lines, sized);
         }

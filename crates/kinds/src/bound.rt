@@ -4,6 +4,7 @@ ghost use Rattle.kinds.specs.Bounds.{join, at_most, admits, weighs, meant};
 
 use crate::kind::Kind;
 
+// No Option: that puts None first, and no bound lies above all.
 #[derive(Clone, Copy, Debug, PartialEq, Eq)]
 pub enum Bound<K> {
     At(K),

@@ -17,36 +17,30 @@ use text::parts::{TAB, count, part};
 /// The largest number of a gauge; the smallest is 1.
 pub const LAST_GAUGE: i64 = 9_999;
 
-// A literal at each field is no plainer: it takes four lines.
-fn field_place(line: usize, field: usize) -> Place
-    ensures { (result.line ≡ line) × (result.field ≡ field) }
-{
-    Place { line, field }
-}
-
 fn read_gauge(field: &[u8], place: Place) -> Result<u32, Fault>
     ensures { result ≡ ok_or (gauge_of field.now) (fault_at BadField place.line place.field) }
 {
     let n = number(field, 1, LAST_GAUGE, place)?;
+    // A conversion that may fail would name an error that cannot come.
     Ok(n as u32)
 }
 
-/// The fields of line `number`, from the left.
-fn read_fields<K: Kind>(line: &[u8], number: usize) -> Result<Record<K>, Fault>
-    ensures { 2 < length (split 9 line.now) → Says K.value (fields_say K.fields K.means K.stamp number (split 9 line.now)) result }
+/// The fields of a line, from the left.
+fn read_fields<K: Kind>(text: &[u8], line: usize) -> Result<Record<K>, Fault>
+    ensures { 2 < length (split 9 text.now) → Says K.value (fields_say K.fields K.means K.stamp line (split 9 text.now)) result }
 {
-    let name = Name::read(part(line, TAB, 0), field_place(number, 1))?;
-    let gauge = read_gauge(part(line, TAB, 1), field_place(number, 2))?;
-    let stamp = read_behind(line, 2, field_place(number, 3), K::is_stamp)?;
+    let name = Name::read(part(text, TAB, 0), Place { line, field: 1 })?;
+    let gauge = read_gauge(part(text, TAB, 1), Place { line, field: 2 })?;
+    let stamp = read_behind(text, 2, Place { line, field: 3 }, K::is_stamp)?;
     Ok(Record { name, gauge, stamp })
 }
 
-/// Line `number` of a log: the number of its fields, then the fields.
-pub fn read_line<K: Kind>(line: &[u8], number: usize) -> Result<Record<K>, Fault>
-    ensures { Says K.value (line_says K.fields K.means K.stamp number (split 9 line.now)) result }
+/// What a line of a log says: the number of its fields, then the fields.
+pub fn read_line<K: Kind>(text: &[u8], line: usize) -> Result<Record<K>, Fault>
+    ensures { Says K.value (line_says K.fields K.means K.stamp line (split 9 text.now)) result }
 {
-    if !has_fields_behind::<K>(2, count(line, TAB)) {
-        return Err(field_place(number, 0).fault(Cause::BadLine));
+    if !has_fields_behind::<K>(2, count(text, TAB)) {
+        return Err(Place { line, field: 0 }.fault(Cause::BadLine));
     }
-    read_fields(line, number)
+    read_fields(text, line)
 }

@@ -10,6 +10,8 @@ use kinds::kind::Kind;
 
 pub const MOST_VARIABLES: usize = 8;
 
+// Lent memory is one flat slice: the bound from i to j lies at 8 i + j.
+
 // How many bounds a table of eight variables has.
 pub const CELLS: usize = 64;
 

@@ -33,6 +33,7 @@ fn relax_row<K: Kind>(table: &mut [Bound<K>], width: usize, k: usize, i: usize)
     ensures { Relaxed K.group K.value K.weight i k width table.old table.new }
 {
     let via = get(table, i, k);
+    // By number: a turn reads row k and writes row i of the one slice.
     for j in 0..width {
         if let Some(way) = joined(table, &via, k, j) {
             lower(table, i, j, way);
@@ -60,6 +61,7 @@ fn ground<K: Kind>(table: &mut [Bound<K>], width: usize)
     ensures { Grounded K.group K.value width table.old table.new }
 {
     let zero = Bound::At(K::zero());
+    // By number: it stands for row and column.
     for d in 0..width {
         lower(table, d, d, zero);
     }
@@ -80,6 +82,7 @@ fn rounds<K: Kind>(table: &mut [Bound<K>], width: usize) -> Result<(), Unclosed>
     ensures ran { Ran K.group K.value K.weight width table.old table.new result }
     ensures light { StaysLight K.group K.value K.weight width table.old table.new result }
 {
+    // By number: a round goes over the whole slice, and may be the last.
     for k in 0..width {
         // A cycle below zero shows here, before the round of its highest variable.
         if !is_settled(table, k) {
@@ -105,6 +108,7 @@ fn check_admitted<K: Kind>(table: &[Bound<K>], width: usize) -> Result<(), Unclo
     ensures admitted { OkIff result (Admitted K.value K.bound width table.now) tt }
     ensures refused { IsOkUnless result Unclosed.NotAdmitted }
 {
+    // As `all` over the rows the proof did not close: what the inner test decides did not reach it.
     for i in 0..width {
         if !row_admitted(table, width, i) {
             return Err(Unclosed::NotAdmitted);

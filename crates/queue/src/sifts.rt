@@ -21,6 +21,7 @@ fn foremost_child<T: Ranked>(items: &[T], parent: usize) -> usize
     ensures { Foremost T.leq parent result items.now }
 {
     let left = parent * 2 + 1;
+    // Joined with the test below by `||`, what that answers was lost to the proof.
     if left + 1 == items.len() {
         return left;
     }

@@ -5,7 +5,7 @@ ghost use Rattle.report.specs.Lines.{refusal_number};
 use crate::letter::Letter;
 use lent::list::Lent;
 
-// The events of the row are the first `width` numbers of the choice.
+// The events of the row are the first `width` numbers of the choice: lines lie in lent memory, so the array is fixed.
 #[derive(Clone, Copy, Debug, PartialEq, Eq)]
 pub struct Line<K> {
     pub letter: Letter,

@@ -45,6 +45,8 @@ fn text_from(text: &[u8], from: usize) -> &[u8]
     text.get(from..).unwrap_or(&[])
 }
 
+// Text, place and number stay three arguments: a log keeps them as its cursor, a definition's reader as locals.
+
 /// The line that begins at byte `from`, as line `number`.
 pub fn line_at(text: &[u8], from: usize, number: usize) -> Result<&[u8], Fault>
     ensures { Answers (line_of number (split 10 (drop from text.now))) result }

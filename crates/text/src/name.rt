@@ -4,6 +4,7 @@ ghost use Rattle.text.specs.Names.{is_name};
 
 mod methods;
 
+// A fixed array with its length: names lie in slots, and no call takes memory of its own.
 #[derive(Clone, Copy, Debug, PartialEq, Eq)]
 pub struct Name {
     bytes: [u8; 8],

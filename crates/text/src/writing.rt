@@ -3,6 +3,8 @@ ghost use Rattle.std.specs.Prelude.{◌≡◌};
 ghost use Rattle.std.specs.Fmt.{signed_decimal};
 ghost use Rattle.text.specs.Writing.{place_after, pasted};
 
+// Buffer and place stay two arguments: a caller that writes on has only the place to carry.
+
 /// Writes `bytes` from `start` on and says where they end, or writes nothing where they do not fit.
 pub fn put(out: &mut [u8], start: usize, bytes: &[u8]) -> Option<usize>
     ensures place { result ≡ place_after out.old start bytes.now }
