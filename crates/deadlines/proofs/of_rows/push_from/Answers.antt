@@ -3,12 +3,9 @@ use Rattle.std.proofs.lemmas.List.{drop_at, map-append}
 use Rattle.std.proofs.lemmas.Iterator.{YieldsList-from_slice}
 use Rattle.std.proofs.lemmas.Iterator.Adapters.{YieldsList-from_skip}
 use Rattle.std.proofs.lemmas.Iterator.Consumers.{YieldsList-at, YieldsList-end}
-use Rattle.deadlines.proofs.Fills.{pushed_none, pushed_more}
+use Rattle.deadlines.proofs.Fills.{pushed_more}
 use Rattle.deadlines.specs.Queues.{QueueHolds}
 use Rattle.deadlines.proofs.of_rows.push_from.Goals as goal
-
-pub loop-row-init : goal.loop-row-init
-loop-row-init g c = pushed_none g.K.Kind c.args.queue.now
 
 pub loop-row-preserved : goal.loop-row-preserved
 loop-row-preserved g c = rw map-append

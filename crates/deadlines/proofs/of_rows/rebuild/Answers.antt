@@ -1,7 +1,7 @@
-use Rattle.std.proofs.Common.{◌≡◌, ◌+◌, ◌<◌, ◌≤◌, [], ◌∷◌, ◌++◌, length, get_or, take, sym, ap, ◌∙◌, subst, arith}
-use Rattle.std.proofs.lemmas.List.{take_all, take_more}
+use Rattle.std.proofs.Common.{◌≡◌, ◌+◌, ◌<◌, [], ◌∷◌, ◌++◌, length, get_or, take, sym, ap, ◌∙◌, subst, arith}
+use Rattle.std.proofs.lemmas.List.{take_more}
 use Rattle.lent.specs.Lists.{held}
-use Rattle.deadlines.proofs.Fills.{Appended, appended_more, appended_all}
+use Rattle.deadlines.proofs.Fills.{Appended, appended_more}
 use Rattle.deadlines.proofs.of_rows.rebuild.Goals as goal
 
 -- what the loop goes over is named nowhere: it is what the list holds
@@ -15,16 +15,3 @@ loop-row-preserved g c =
     let one_more : take (i + 1) xs ≡ take i xs ++ (row ∷ []) = take_more xs i row inside ∙ ap (λ r. take i xs ++ (r ∷ [])) (sym is) in
     subst (λ rs. Appended rs c.clear.new.self c.append.new.self) (sym one_more)
     (appended_more (take i xs) c.clear.new.self c.loop-row.queue c.append.new.self row c.append.result c.append.ensures c.loop-row.invariant)
-
-pub returns : goal.returns
-returns g c =
-    let xs = held c.args.rows.now in
-    let i = c.loop-row.row-index in
-    let past : length xs ≤ i = grind arith in
-    record {
-      holds = λ fits.
-          appended_all g.K.Kind xs c.clear.new.self c.loop-row.queue c.settle.new.self
-          (subst (λ rs. Appended rs c.clear.new.self c.loop-row.queue) (take_all i xs past) c.loop-row.invariant) c.settle.ensures.shuffled c.settle.ensures.heaped
-          (subst (λ ms. length xs ≤ length ms) (sym c.clear.ensures.memory) fits);
-      capacity = c.settle.ensures.capacity ∙ c.loop-row.invariant.capacity ∙ ap length c.clear.ensures.memory;
-    }
