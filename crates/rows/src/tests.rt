@@ -20,7 +20,10 @@ fn count_of(bound: Bound<Ticks>) -> Option<i64> {
 // The second of three variables at most 6 after the first, the third at least 1 before the second.
 fn jump(rt: &impl Abort, table: &mut [Bound<Ticks>]) -> Result<(), Fail> {
     assert_eq!(rt; tighten(table, 0, 1, Bound::At(Ticks { count: 6 })), Ok(()));
-    assert_eq!(rt; tighten(table, 1, 2, Bound::At(Ticks { count: -1 })), Ok(()));
+    assert_eq!(rt;
+        tighten(table, 1, 2, Bound::At(Ticks { count: -1 })),
+        Ok(())
+    );
     close(table, 3)?;
     Ok(())
 }

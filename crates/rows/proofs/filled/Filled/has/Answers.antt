@@ -1,10 +1,7 @@
 use Rattle.std.proofs.Common.{◌<◌, ◌≤◌, arith, rules}
-use Rattle.rows.proofs.Bits.{bit_read, none_beyond}
+use Rattle.rows.proofs.Bits.{none_beyond}
 use Rattle.std.proofs.lemmas.Bool.{le-ltb}
 use Rattle.rows.proofs.filled.Filled.has.Goals as goal
-
-pub returns-then-i-lt-MOST_VARIABLES : goal.returns-then-i-lt-MOST_VARIABLES
-returns-then-i-lt-MOST_VARIABLES c = search (rules, bit_read)
 
 pub returns-else-i-lt-MOST_VARIABLES : goal.returns-else-i-lt-MOST_VARIABLES
 returns-else-i-lt-MOST_VARIABLES c =
