@@ -1,9 +1,8 @@
 -- Chains of given bounds, the smallest sum over them, and what contradicts.
-use Rattle.std.specs.Prelude.{◌≡◌, ℕ, true, false}
+use Rattle.std.specs.Prelude.{◌≡◌, ℕ, false}
 use Rattle.kinds.specs.Bounds.{Smallest}
 use Rattle.kinds.specs.Ordered.{Ordered}
 use Rattle.kinds.specs.declared.bound.Bound.{Bound}
-use Rattle.kinds.specs.declared.bound.Bound.TheVariants.{At, NoBound}
 
 -- a chain of given bounds from i to j with its sum; the empty chain from i to i sums to zero
 pub data Chain {G : Type 0} (group : Ordered G) (Given : ℕ → ℕ → G → Type 0) : ℕ → ℕ → G → Type 0 where
