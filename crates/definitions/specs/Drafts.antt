@@ -4,7 +4,7 @@ use Rattle.text.specs.declared.fault.Fault.{Fault}
 use Rattle.kinds.specs.Bounds.{Smallest}
 use Rattle.kinds.specs.Ordered.{Ordered}
 use Rattle.kinds.specs.declared.bound.Bound.{Bound}
-use Rattle.kinds.specs.declared.bound.Bound.TheVariants.{At, NoBound}
+use Rattle.kinds.specs.declared.bound.Bound.TheVariants.{NoBound}
 use Rattle.network.specs.Tables.{entry}
 use Rattle.definitions.specs.declared.draft.Draft.{Draft}
 use Rattle.definitions.specs.Chronicles.{Limit, Chronicle, Said, Given}
