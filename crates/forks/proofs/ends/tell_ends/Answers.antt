@@ -1,9 +1,8 @@
 use Rattle.std.proofs.Common.{[], ◌∷◌, ◌++◌, length, refl, subst, arith}
 use Rattle.std.proofs.lemmas.List.{length_push}
 use Rattle.std.proofs.lemmas.Option.{slice_get_read}
-use Rattle.forks.specs.Ends.{Settles}
 use Rattle.forks.specs.Rows.{EndsAt}
-use Rattle.forks.proofs.Settling.{settles_none, settles_stays, settles_ends, settles_all}
+use Rattle.forks.proofs.Settling.{settles_none, settles_stays, settles_ends}
 use Rattle.forks.proofs.ends.tell_ends.Goals as goal
 
 pub loop-row-init : goal.loop-row-init
@@ -30,14 +29,4 @@ loop-row-preserved g c =
       settles_ends g.K.Kind rows c.loop-row.row-index c.row-item.result c.loop-row-test.true (slice_get_read rows (length rows) c.loop-row.row-index c.row-item.result refl c.loop-row-test.true c.row-item.is)
           (g.K.Kind.value c.args.moment.now) g.L.Sink.adds kept c.args.lines.now c.loop-row.lines c.put.new.self c.in-Some.line so c.put.ensures
           (subst (EndsAt g.K.Kind c.row-item.result (g.K.Kind.value c.args.moment.now)) c.in-Some.is c.ending.ensures),
-    )
-
-pub returns : goal.returns
-returns g c =
-    let m = g.K.Kind in
-    let (kept, count, below, so) = c.loop-row.invariant in (
-      kept,
-      count,
-      subst (λ rows. Settles m g.L.Sink.took (m.value c.args.moment.now) rows rows kept c.args.lines.now c.loop-row.lines) c.as_slice-row-items.ensures
-          (settles_all m (m.value c.args.moment.now) c.as_slice-row-items.result.now c.loop-row.row-index kept c.args.lines.now c.loop-row.lines (omega arith) so),
     )
