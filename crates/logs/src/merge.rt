@@ -8,6 +8,7 @@ ghost use Rattle.logs.specs.Turns.{turn, Turns};
 use crate::source::{Next, Source};
 use kinds::kind::Kind;
 
+// The source that a call takes from: a name for one of two fields, and no step of its own.
 #[derive(Clone, Copy, Debug, PartialEq, Eq)]
 enum Side {
     First,
