@@ -13,7 +13,7 @@ use std::io;
 const PATH: &str = "chronicles.txt";
 
 fn print_variables(rt: &HostRuntime, definition: &Definition) -> io::Result<()> {
-    // The number is what is printed.
+    // By number: it is printed, and type names are read by it.
     for i in 0..definition.types.len() {
         if let Some(name) = definition.types.get(i) {
             println!(rt; "VAR\t{}\t{name}", i + 1)?;
@@ -26,6 +26,7 @@ fn print_row(rt: &HostRuntime, table: &[Bound<Ticks>], i: usize, width: usize) -
     // The numbers are what is printed, here and over the rows.
     for j in (0..width).filter(|j| *j != i) {
         if let Some(Bound::At(most)) = bound_between(table, i, j) {
+            // Three numbers, written out: a closed bound has no type of its own.
             let from = i.saturating_add(1);
             let to = j.saturating_add(1);
             let c = most.count;
@@ -44,6 +45,7 @@ fn print_definition(
     let width = definition.types.len();
     println!(rt; "CHRONICLE\t{slot}\t{width}")?;
     print_variables(rt, definition)?;
+    // By number, as in a row.
     for i in 0..width {
         print_row(rt, table, i, width)?;
     }

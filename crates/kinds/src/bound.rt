@@ -4,7 +4,7 @@ ghost use Rattle.kinds.specs.Bounds.{join, at_most, admits, weighs, meant};
 
 use crate::kind::Kind;
 
-// No Option: that puts None first, and no bound lies above all.
+// No Option: "no bound" is a value above all others, not an absence, and an order that puts None first would be wrong of it.
 #[derive(Clone, Copy, Debug, PartialEq, Eq)]
 pub enum Bound<K> {
     At(K),

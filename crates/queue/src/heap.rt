@@ -10,7 +10,7 @@ use lent::front::front;
 pub use lent::list::Full;
 
 // The first `len` elements of the memory; the rest is free.
-// A heap of the library's own would need more memory than is lent.
+// It lies over the lent slice itself, not over a list: the steps of a heap swap inside that slice.
 // `new`, `clear` and `settle` leave a heap in order, `push` and `take` keep it so, and only `append` does not.
 #[derive(Drop)]
 pub struct Heap<'a, T> {

@@ -66,6 +66,7 @@ impl<'a, K: Kind> Portrait<'a, K> {
         if !self.allows_all(j, stamp) {
             return Placing::Fails;
         }
+        // Two answers of three: no conversion of an Option says which.
         match self.filled.with(j).first_open(self.width) {
             Some(_) => Placing::Grows,
             None => Placing::Ripens,

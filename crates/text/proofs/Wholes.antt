@@ -1,5 +1,5 @@
 -- Numbers as they are read and as they are written: by the library's reader, within 64 bits, and there and back.
-use Rattle.std.proofs.Common.{◌≡◌, ℕ, zero, suc, ◌-◌, ◌^◌, ◌<◌, ◌≤◌, Bool, true, false, cond, ◌&&◌, eqb, leb, List, [], ◌∷◌, length, get_or, ℤ, pos, negsuc, Some, None, Ok, Err, decimal, Option, Result, sym, refl, ap, ◌∙◌, inl, inr, arith, w64, SFits, to_z, of_z, rules}
+use Rattle.std.proofs.Common.{◌≡◌, ℕ, zero, suc, ◌+◌, ◌-◌, ◌*◌, ◌^◌, ◌<◌, ◌≤◌, Bool, true, false, cond, ◌&&◌, eqb, leb, List, [], ◌∷◌, length, get_or, ℤ, pos, negsuc, Some, None, Ok, Err, decimal, Option, Result, sym, refl, ap, ◌∙◌, inl, inr, arith, w64, SFits, to_z, of_z, rules}
 use lib.Signed.{le_z, mag}
 use Rattle.std.proofs.lemmas.Fmt.{decimal-digits_value, digits_value-decimal, digits_decimal, decimal_nonempty, first_decimal, decimal_digit}
 use Rattle.std.proofs.lemmas.Str.{IsUtf8-from_ascii}
@@ -85,6 +85,11 @@ numeral_made ds a l z = grind (arith, nat_tests)
 
 pub numeral_parts : (ds : List ℕ) → is_numeral ds ≡ true → (all_digits ds ≡ true) × (0 < length ds) × (get_or ds 0 0 ≡ 48 → length ds ≡ 1)
 numeral_parts ds h = (grind (arith, nat_tests), grind (arith, nat_tests), grind (arith, nat_tests))
+
+-- a number only grows with more digits
+pub read_on_grows : (n : ℕ) (ds : List ℕ) → n ≤ read_on n ds
+read_on_grows n [] = omega arith
+read_on_grows n (c ∷ cs) = omega (arith, read_on_grows (10 * n + (c - 48)) cs)
 
 pub numeral_natural : (ds : List ℕ) → is_numeral ds ≡ true → natural ds ≡ Some (read_on 0 ds)
 numeral_natural ds h = rw h

@@ -6,7 +6,7 @@ pub const TAB: u8 = b'\t';
 
 pub const LINE_FEED: u8 = b'\n';
 
-/// Where `b` stands first, or the length where it does not stand: each caller cuts the bytes there, so no Option.
+/// Where `b` stands first, or the length where it does not stand: the part before `b` then ends there in either case.
 pub fn find(bytes: &[u8], b: u8) -> usize
     ensures place { result ≡ first_place b bytes.now }
     ensures within { result ≤ length bytes.now }
