@@ -1,6 +1,7 @@
--- Why the slot of a definition that is read is that of its first line.
-use Rattle.std.proofs.Common.{◌≡◌, ℕ, ◌<◌, ◌≤◌, Bool, true, false, cond, ◌&&◌, leb, List, [], drop, ℤ, pos, negsuc, nat_abs, Some, None, Ok, Err, Option, sym, refl, ap, ◌∙◌, arith}
+-- What is known of every definition that is read, and why its slot is that of the first line.
+use Rattle.std.proofs.Common.{◌≡◌, ℕ, ◌<◌, ◌≤◌, Bool, true, false, cond, ◌&&◌, leb, List, [], length, drop, ℤ, pos, negsuc, nat_abs, Some, None, Ok, Err, Option, sym, refl, ap, ◌∙◌, subst, ⊎_elim, arith}
 use lib.Signed.{le_z}
+use Rattle.std.proofs.lemmas.List.{length_push}
 use Rattle.std.proofs.lemmas.Bool.{and_parts, leb-true, false≢true}
 use Rattle.std.specs.Option.{option_map}
 use Rattle.text.specs.declared.fault.Cause.TheVariants.{SlotLoaded}
@@ -11,7 +12,7 @@ use Rattle.text.specs.Numbers.{whole, within}
 use Rattle.text.specs.Split.{split}
 use Rattle.text.specs.Following.{then}
 use Rattle.kinds.specs.Fields.{Takes}
-use Rattle.definitions.specs.Chronicles.{Chronicle, Said}
+use Rattle.definitions.specs.Chronicles.{Chronicle, Said, Given}
 use Rattle.definitions.specs.Chronicles.Said.{opening}
 use Rattle.definitions.specs.Grammar.{Spells, Follows, SoundLine, MadeOf}
 use Rattle.definitions.specs.Grammar.Spells.{chronicle_line, var_line, bound_line, end_line}
@@ -21,9 +22,10 @@ use Rattle.definitions.specs.Lines.{small, item_of}
 use Rattle.definitions.specs.Openings.{Opened, Opens}
 use Rattle.definitions.specs.Reading.{blank, is_loaded, with_slot, Reading, judged, reading_of}
 use Rattle.definitions.specs.Steps.{line_end}
+use Rattle.definitions.proofs.Drafting.{given_push}
 use Rattle.definitions.proofs.Grammar.{item_spells, read_made}
 use Rattle.definitions.proofs.Judging.{judged_is, judged_line, judged_item}
-use Rattle.definitions.proofs.Progress.{read_fault, read_on_lem}
+use Rattle.definitions.proofs.Progress.{read_fault, read_on_lem, reading_some}
 
 -- a slot or a variable is 1 to 8
 small-within : (f : List ℕ) (s : ℕ) → small f ≡ Some s → (1 ≤ s) × (s ≤ 8)
@@ -65,6 +67,29 @@ module _ {G : Type 0} where
   follows_slot (bounds few p q ne) other = refl
   follows_slot (ends some) other = refl
 
+  follows_free : {loaded : List Bool} {d : Chronicle G} {said : Said G} {made : Chronicle G} → Follows loaded d said made → (s : ℕ) → said ≡ opening s → (made.slot ≡ s) × (is_loaded loaded s ≡ false)
+  follows_free {loaded} (opens {s = t} free) s e = let same : t ≡ s = cc in (same, subst (λ x. is_loaded loaded x ≡ false) same free)
+  follows_free (names few) s e = let z : ◌≡◌ {A = ℕ} 0 1 = cc in absurd (omega arith)
+  follows_free (bounds few p q ne) s e = let z : ◌≡◌ {A = ℕ} 0 1 = cc in absurd (omega arith)
+  follows_free (ends some) s e = let z : ◌≡◌ {A = ℕ} 0 1 = cc in absurd (omega arith)
+
+  -- at most eight variables, and bounds between them
+  record Fit (d : Chronicle G) : Type 0 where
+    few : length d.types ≤ 8
+    between : (i j : ℕ) (c : G) → Given d.limits i j c → (i < length d.types) × (j < length d.types)
+
+  follows_fit : {loaded : List Bool} {d : Chronicle G} {said : Said G} {made : Chronicle G} → Follows loaded d said made → Fit d → Fit made
+  follows_fit (opens free) fit = record { few = fit.few; between = fit.between }
+  follows_fit {d = d} (names {name} few) fit = record {
+    few = omega (arith, length_push d.types name);
+    between = λ i j c g. let h = fit.between i j c g in (omega (arith, length_push d.types name, h.0), omega (arith, length_push d.types name, h.1));
+  }
+  follows_fit {d = d} (bounds {l} few p q ne) fit = record {
+    few = fit.few;
+    between = λ i j c g. ⊎_elim (fit.between i j c) (λ h. (omega (arith, h.0, p), omega (arith, h.1, q))) (given_push l i j c d.limits g);
+  }
+  follows_fit (ends some) fit = fit
+
   module _ {means : List (List ℕ) → Option G} {bound : G → Bool} {loaded : List Bool} where
     sound_slot : {n : ℕ} {d : Chronicle G} {line : List ℕ} {said : Said G} {made : Chronicle G} → SoundLine means bound loaded n d line said made → 1 < n → made.slot ≡ d.slot
     sound_slot sound later = follows_slot sound.follows (λ s e. let one = (spells_slot sound.spells s e).0 in omega (arith, one))
@@ -74,7 +99,47 @@ module _ {G : Type 0} where
     made_slot (last sound) later = sound_slot sound later
     made_slot (more sound goes on) later = made_slot on (omega arith) ∙ sound_slot sound later
 
+    made_fit : {n used : ℕ} {d : Chronicle G} {ps : List (List ℕ)} {r : Reading G} → MadeOf means bound loaded n used d ps r → Fit d → Fit r.chronicle
+    made_fit (last sound) fit = follows_fit sound.follows fit
+    made_fit (more sound goes on) fit = made_fit on (follows_fit sound.follows fit)
+
+    sound_first : {n : ℕ} {d : Chronicle G} {line : List ℕ} {said : Said G} {made : Chronicle G} → SoundLine means bound loaded n d line said made → n ≡ 1 → (1 ≤ made.slot) × (made.slot ≤ 8) × (is_loaded loaded made.slot ≡ false)
+    sound_first sound one =
+        let s = spells_first sound.spells one in
+        let f = follows_free sound.follows s.0 s.1 in
+        (omega (arith, f.0, s.2), omega (arith, f.0, s.3), ap (is_loaded loaded) f.0 ∙ f.1)
+
+    made_first : {n used : ℕ} {d : Chronicle G} {ps : List (List ℕ)} {r : Reading G} → MadeOf means bound loaded n used d ps r → n ≡ 1 → (1 ≤ r.chronicle.slot) × (r.chronicle.slot ≤ 8) × (is_loaded loaded r.chronicle.slot ≡ false)
+    made_first (last sound) one = sound_first sound one
+    made_first (more sound goes on) one =
+        let s = sound_first sound one in
+        let kept = made_slot on (omega arith) in
+        (omega (arith, kept, s.0), omega (arith, kept, s.1), ap (is_loaded loaded) kept ∙ s.2)
+
+-- a chronicle that was read: into an empty slot, with 1 to 8 variables, and bounds between them
+pub record Proper {G : Type 0} (loaded : List Bool) (d : Chronicle G) : Type 0 where
+  pub first : 1 ≤ d.slot
+  pub last : d.slot ≤ 8
+  pub free : is_loaded loaded d.slot ≡ false
+  pub some : 0 < length d.types
+  pub few : length d.types ≤ 8
+  pub between : (i j : ℕ) (c : G) → Given d.limits i j c → (i < length d.types) × (j < length d.types)
+
 module _ {G : Type 0} (fields : ℕ) (means : List (List ℕ) → Option G) (bound : G → Bool) (takes : Takes fields means) (loaded : List Bool) (text : List ℕ) where
+  pub reading_proper : (r : Reading G) → reading_of fields means bound loaded text ≡ Ok r → Proper loaded r.chronicle
+  reading_proper r e =
+      let made = read_made fields means bound takes loaded 1 0 blank (split 10 text) r e in
+      let slot = made_first made refl in
+      let fit = made_fit made (record { few = omega arith; between = λ i j c g. absurd g }) in
+      record {
+        first = slot.0;
+        last = slot.1;
+        free = slot.2;
+        some = reading_some fields means bound loaded 1 0 blank (split 10 text) r e;
+        few = fit.few;
+        between = fit.between;
+      }
+
   -- the line or what it says is at fault
   pub line_refused : (f : Fault) → line_of 1 (split 10 text) ≡ Err f → reading_of fields means bound loaded text ≡ Err f
   line_refused f e = read_fault fields means bound loaded 1 0 blank text f (judged_line fields means bound loaded 1 blank (split 10 text) f e)
