@@ -1,13 +1,9 @@
--- Numbers as they are read and as they are written: by the library's reader, within 64 bits, and there and back.
-use Rattle.std.proofs.Common.{◌≡◌, ℕ, zero, suc, ◌+◌, ◌-◌, ◌*◌, ◌^◌, ◌<◌, ◌≤◌, Bool, true, false, cond, ◌&&◌, eqb, leb, List, [], ◌∷◌, length, get_or, ℤ, pos, negsuc, Some, None, Ok, Err, decimal, Option, Result, sym, refl, ap, ◌∙◌, inl, inr, arith, w64, SFits, to_z, of_z, rules}
+-- Numbers as they are read and as they are written: digit by digit, within 64 bits, and there and back.
+use Rattle.std.proofs.Common.{◌≡◌, ℕ, zero, suc, ◌+◌, ◌-◌, ◌*◌, ◌^◌, ◌<◌, ◌≤◌, Bool, true, false, cond, ◌&&◌, eqb, leb, List, [], ◌∷◌, length, get_or, drop, ℤ, pos, negsuc, Some, None, decimal, Option, sym, refl, ap, ◌∙◌, inl, inr, arith, w64, SFits, to_z, of_z, rules}
 use lib.Signed.{le_z, mag}
 use Rattle.std.proofs.lemmas.Fmt.{decimal-digits_value, digits_value-decimal, digits_decimal, decimal_nonempty, first_decimal, decimal_digit}
-use Rattle.std.proofs.lemmas.Str.{IsUtf8-from_ascii}
-use Rattle.std.proofs.lemmas.Str.Ascii.{IsAscii-from_reads}
-use Rattle.std.proofs.lemmas.Str.Parse.{IsNumeralModel, numerals_by_fold, parse_digits}
-use Rattle.std.specs.Str.{IsUtf8}
-use Rattle.std.specs.Str.Parse.{ParsesUnsigned}
-use Rattle.std.specs.Result.{OkIff, result_ok}
+use Rattle.std.proofs.lemmas.List.{drop_all, at_drop_more}
+use Rattle.std.proofs.lemmas.Str.Parse.{IsNumeralModel, numerals_by_fold}
 use Rattle.std.proofs.lemmas.Int.{to_z-of_z}
 use Rattle.std.proofs.lemmas.Bool.{and_parts, and_left, and_right, leb-true, le-leb, lt-leb, cases_Bool, cases_lt, eqb-true, ne_eqb}
 use Rattle.std.proofs.lemmas.Bool.Decides.{nat_tests}
@@ -35,6 +31,15 @@ sized_kept n = by_test (leb n (2 ^ 63))
     by_test : (b : Bool) → then_some b n ≡ cond b (Some n) None
     by_test true = refl
     by_test false = refl
+
+-- a step of the reading of digits, and its end
+pub read_more : (n : ℕ) (ds : List ℕ) (i : ℕ) → i < length ds → read_on n (drop i ds) ≡ read_on (n * 10 + (get_or ds i 0 - 48)) (drop (i + 1) ds)
+read_more n ds i l =
+    let e : 10 * n + (get_or ds i 0 - 48) ≡ n * 10 + (get_or ds i 0 - 48) = omega arith in
+    at_drop_more (read_on n) ds i 0 l ∙ ap (λ m. read_on m (drop (i + 1) ds)) e
+
+pub read_none : (n : ℕ) (ds : List ℕ) (i : ℕ) → length ds ≤ i → read_on n (drop i ds) ≡ n
+read_none n ds i h = rw (drop_all i ds h)
 
 -- the code's limit is the range from -2 ^ 63 to 2 ^ 63
 pub capped-negative : (o : Option ℕ) → negative (capped o) ≡ within (negsuc (2 ^ 63 - 1)) (pos (2 ^ 63)) (negative o)
@@ -90,32 +95,6 @@ numeral_parts ds h = (grind (arith, nat_tests), grind (arith, nat_tests), grind 
 pub read_on_grows : (n : ℕ) (ds : List ℕ) → n ≤ read_on n ds
 read_on_grows n [] = omega arith
 read_on_grows n (c ∷ cs) = omega (arith, read_on_grows (10 * n + (c - 48)) cs)
-
-pub numeral_natural : (ds : List ℕ) → is_numeral ds ≡ true → natural ds ≡ Some (read_on 0 ds)
-numeral_natural ds h = rw h
-
--- so a numeral is text, of which the library's reader gives the value, or nothing where 64 bits are too few
-pub digits_utf8 : (ds : List ℕ) → all_digits ds ≡ true → IsUtf8 ds
-digits_utf8 ds h = IsUtf8-from_ascii ds (IsAscii-from_reads ds (length ds) (omega arith) (λ k l. omega (arith, (digit_within ds k h l).1)))
-
-module _ {E : Type 0} (ds : List ℕ) (p : all_digits ds ≡ true) where
-  pub parsed_some : (r : Result ℕ E) → ParsesUnsigned 64 10 ds r → (n : ℕ) → Some n ≡ result_ok r → n ≡ read_on 0 ds
-  parsed_some r h n e = go r (parse_digits own 64 ds r h p) e
-    where
-      go : (r : Result ℕ E) → OkIff r ((0 < length ds) × (read_on 0 ds < 2 ^ 64)) (read_on 0 ds) → Some n ≡ result_ok r → n ≡ read_on 0 ds
-      go (Ok m) k e = let f : n ≡ m = cc in f ∙ k.1
-      go (Err x) k e = let z : ◌≡◌ {A = ℕ} 0 1 = cc in absurd (omega arith)
-
-  pub parsed_none : (r : Result ℕ E) → ParsesUnsigned 64 10 ds r → 0 < length ds → result_ok r ≡ None → 2 ^ 64 ≤ read_on 0 ds
-  parsed_none r h some e = go r (parse_digits own 64 ds r h p) e
-    where
-      go : (r : Result ℕ E) → OkIff r ((0 < length ds) × (read_on 0 ds < 2 ^ 64)) (read_on 0 ds) → result_ok r ≡ None → 2 ^ 64 ≤ read_on 0 ds
-      go (Ok m) k e = let z : ◌≡◌ {A = ℕ} 0 1 = cc in absurd (omega arith)
-      go (Err x) k e =
-          elim (cases_lt (read_on 0 ds) (2 ^ 64)) [
-            | inl l ↦ absurd (k (some, l))
-            | inr g ↦ g
-          ]
 
 -- a number without a sign is its decimal writing
 natural_decimal : (n : ℕ) → n < 2 ^ 64 → natural (decimal n) ≡ Some n

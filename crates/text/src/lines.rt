@@ -56,10 +56,11 @@ pub fn line_at(text: &[u8], from: usize, number: usize) -> Result<&[u8], Fault>
 
 /// The line that a fault stands on, as part of the caller's text.
 pub fn faulty_line<'a>(text: &'a [u8], fault: &Fault) -> &'a [u8]
-    ensures { result.now ≡ line_text (split 10 text.now) fault.now.place.line }
+    ensures line { result.now ≡ line_text (split 10 text.now) fault.now.place.line }
+    ensures inside { fault.now.place.line ≡ 0 → result.ref_ptr.0 ≡ text.entry.ref_ptr.0 }
 {
     if fault.place.line == 0 {
-        return &[];
+        return &text[..0];
     }
     parts::part(text, LINE_FEED, fault.place.line - 1)
 }

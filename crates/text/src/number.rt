@@ -1,13 +1,12 @@
 // Whole numbers in decimal, read exactly however long the field is.
-ghost use Rattle.std.specs.Prelude.{◌≡◌, ◌-◌, ◌^◌, pos, negsuc};
+ghost use Rattle.std.specs.Prelude.{◌≡◌, ◌-◌, ◌^◌, true, pos, negsuc};
 ghost use Rattle.std.specs.Option.{option_map, ok_or};
 ghost use Rattle.text.specs.declared.fault.Cause.TheVariants.{BadField};
 ghost use Rattle.text.specs.Faults.{fault_at};
-ghost use Rattle.text.specs.Numbers.{all_digits, is_numeral, natural, negative, whole, within, WrittenOneWay};
-ghost use Rattle.text.specs.Sizes.{capped};
+ghost use Rattle.text.specs.Numbers.{all_digits, read_on, is_numeral, natural, negative, whole, within, WrittenOneWay};
+ghost use Rattle.text.specs.Sizes.{sized, capped};
 
 use crate::fault::{Cause, Fault, Place};
-use std::str;
 
 /// The largest size that an `i64` can have, that of its minimum: past it, reading gives up.
 const LARGEST: u64 = 9_223_372_036_854_775_808;
@@ -22,7 +21,20 @@ fn all_digits(bytes: &[u8]) -> bool
 fn is_numeral(field: &[u8]) -> bool
     ensures { result ≡ is_numeral field.now }
 {
-    !field.is_empty() && all_digits(field) && (field[0] != b'0' || field.len() == 1)
+    !field.is_empty() && (field[0] != b'0' || field.len() == 1) && all_digits(field)
+}
+
+/// The value of a row of digits, up to the largest size.
+// By the library's `parse`, which wants a `str`, a number of one or two digits took twice the time.
+fn value(digits: &[u8]) -> Option<u64>
+    requires { all_digits digits.now ≡ true }
+    ensures { result ≡ sized (read_on 0 digits.now) }
+{
+    let mut size = 0u64;
+    for digit in digits {
+        size = size.checked_mul(10)?.checked_add(u64::from(*digit - b'0'))?;
+    }
+    (size <= LARGEST).then_some(size)
 }
 
 /// A number without a sign.
@@ -32,9 +44,7 @@ fn unsigned(field: &[u8]) -> Option<u64>
     if !is_numeral(field) {
         return None;
     }
-    let digits = str::from_utf8(field).ok()?;
-    let size = digits.parse::<u64>().ok()?;
-    (size <= LARGEST).then_some(size)
+    value(field)
 }
 
 fn as_positive(size: Option<u64>) -> Option<i128>

@@ -31,7 +31,7 @@ pub fn parts_from(bytes: &[u8], b: u8, k: usize) -> &[u8]
     for _ in 0..k {
         let end = find(rest, b);
         if end == rest.len() {
-            return &[];
+            return &bytes[..0];
         }
         rest = &rest[end + 1..];
     }
