@@ -2,13 +2,14 @@
 #![tactic(auto)]
 
 ghost use Rattle.std.specs.Prelude.{◌≡◌, ◌≤◌, IfOk, vec_len};
-ghost use Rattle.files.specs.Inputs.{Judges, refusal_number};
+ghost use Rattle.files.specs.Inputs.{Judges, input_number, refusal_number, unread_text};
 ghost use Rattle.files.specs.declared.Unread.TheVariants.{Failed, Long};
 
 use std::alloc::Global;
+use std::error::Error;
 use std::fs::File;
-use std::io;
 use std::io::Read;
+use std::{fmt, io};
 
 #[cfg(test)]
 mod tests;
@@ -28,7 +29,7 @@ impl From<TooLong> for u8 {
 }
 
 /// Why a file was not read.
-#[derive(Debug, Drop)]
+#[derive(Clone, Copy, Debug)]
 pub enum Unread {
     Failed(io::Error),
     Long(TooLong),
@@ -47,6 +48,31 @@ impl From<TooLong> for Unread {
 
     fn from(refusal: TooLong) -> Unread {
         Unread::Long(refusal)
+    }
+}
+
+/// What a program says of it; of a failed one the system's words.
+impl fmt::Display for Unread {
+    ghost output = { unread_text };
+
+    fn fmt<W: fmt::Write>(&self, f: &mut fmt::Formatter<W>) -> fmt::Result {
+        match self {
+            Unread::Failed(cause) => write!(f, "{cause}"),
+            Unread::Long(_) => f.write_str("the file is too long"),
+        }
+    }
+}
+
+impl Error for Unread {}
+
+/// 0 for a text that was read, else the number of the refusal; a file that failed has none.
+pub fn input_number(read: &Result<Vec<u8>, Unread>) -> Option<u8>
+    ensures { result ≡ input_number read.now }
+{
+    match read {
+        Ok(_) => Some(0),
+        Err(Unread::Long(long)) => Some(u8::from(*long)),
+        Err(Unread::Failed(_)) => None,
     }
 }
 
