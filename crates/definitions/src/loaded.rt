@@ -2,7 +2,7 @@
 ghost use Rattle.std.specs.Prelude.{◌≡◌, ◌-◌, true, ◌&&◌, if◌then◌else◌, nat_le, nat_lt, slice_set};
 ghost use Rattle.definitions.specs.Reading.{is_loaded};
 
-#[derive(Clone, Copy, Debug, PartialEq, Eq)]
+#[derive(Clone, Copy, Debug, Default, PartialEq, Eq, PartialOrd, Ord, Hash)]
 pub struct Loaded(pub [bool; 8]);
 
 impl Loaded {
