@@ -26,7 +26,7 @@ two_parts : (p : List ℕ) (ps : List (List ℕ)) → 0 < length ps → at_end (
 two_parts p [] h = absurd (omega arith)
 two_parts p (q ∷ ps) h = refl
 
-text_left : (text : List ℕ) → 0 < length text → at_end (split 10 text) ≡ false
+pub text_left : (text : List ℕ) → 0 < length text → at_end (split 10 text) ≡ false
 text_left text h =
     elim (cases_lt (first_place 10 text) (length text)) [
       | inl l ↦ ap at_end (split-some 10 text l) ∙ two_parts _ (split 10 (drop (first_place 10 text + 1) text)) (split_some_part 10 (drop (first_place 10 text + 1) text))
@@ -47,7 +47,7 @@ module _ {G : Type 0} (fields : ℕ) (means : List (List ℕ) → Option G) (sta
   records_fault [] f e = refl
   records_fault (p ∷ ps) f e = ap (λ r. before r (records_from fields means stamp (n + 1) ps)) e
 
-  ending_stops : (log : ℕ) (ps : List (List ℕ)) (f : Fault) → at_end ps ≡ false → judged fields means stamp n ps ≡ Err f →
+  pub ending_stops : (log : ℕ) (ps : List (List ℕ)) (f : Fault) → at_end ps ≡ false → judged fields means stamp n ps ≡ Err f →
       ending_from fields means stamp log n ps ≡ fault_end log f
   ending_stops log [] f t e = absurd (cc)
   ending_stops log (p ∷ ps) f t e = cond-false (at_end (p ∷ ps)) clean_end _ t ∙ ap (λ r. unless log r (ending_from fields means stamp log (n + 1) ps)) e

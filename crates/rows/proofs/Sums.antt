@@ -85,7 +85,7 @@ module _ {K G : Type 0} (O : Ordered G) (value : K → G) (p : Portrait K) where
           subst (Smallest O (Sum j i)) (sym (exact (omega arith, omega arith, by.long) (omega arith) (omega (arith, by.light i j h q)))) (smallest_itself O (join O (At (stamp i)) (bound i j)))
 
       -- the limit that stamp x at j sets variable i is exact, and it is tested against what is filled
-      limit_here : (x : G) → weight x ≤ 256 → (i : ℕ) → i < width l → (r : Bool) → Limits j x r i → r ≡ at_most O (At (cond (is_filled k i) (stamp i) x)) (join O (At x) (bound j i))
+      pub limit_here : (x : G) → weight x ≤ 256 → (i : ℕ) → i < width l → (r : Bool) → Limits j x r i → r ≡ at_most O (At (cond (is_filled k i) (stamp i) x)) (join O (At x) (bound j i))
       limit_here x light i h r is =
           let few = row.few in
           let long = row.long in
