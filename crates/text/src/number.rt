@@ -64,9 +64,15 @@ fn as_negative(size: Option<u64>) -> Option<i128>
 fn any_sign(field: &[u8]) -> Option<i128>
     ensures { result ≡ within (negsuc (2 ^ 63 - 1)) (pos (2 ^ 63)) (whole field.now) }
 {
-    match field {
-        [b'-', size @ ..] => as_negative(unsigned(size)),
-        _ => as_positive(unsigned(field)),
+    let (below, digits) = match field {
+        [b'-', digits @ ..] => (true, digits),
+        _ => (false, field),
+    };
+    let size = unsigned(digits);
+    if below {
+        as_negative(size)
+    } else {
+        as_positive(size)
     }
 }
 
