@@ -57,7 +57,7 @@ impl fmt::Display for Unread {
 
     fn fmt<W: fmt::Write>(&self, f: &mut fmt::Formatter<W>) -> fmt::Result {
         match self {
-            Unread::Failed(cause) => write!(f, "{cause}"),
+            Unread::Failed(cause) => fmt::Display::fmt(cause, f),
             Unread::Long(_) => f.write_str("the file is too long"),
         }
     }

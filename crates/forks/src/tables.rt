@@ -11,7 +11,7 @@ pub fn table_of<K: Kind>(entries: &[Bound<K>], slot: usize) -> &[Bound<K>]
     ensures none { (slot < 1) ⊎ (length entries.now / 64 < slot) → result.now ≡ [] }
 {
     if slot < 1 || slot > entries.len() / 64 {
-        return &[];
+        return &entries[..0];
     }
     let start = 64 * (slot - 1);
     &entries[start..start + 64]
