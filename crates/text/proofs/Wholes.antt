@@ -32,11 +32,22 @@ sized_kept n = by_test (leb n (2 ^ 63))
     by_test true = refl
     by_test false = refl
 
+-- a number only grows with more digits
+pub read_on_grows : (n : ℕ) (ds : List ℕ) → n ≤ read_on n ds
+read_on_grows n [] = omega arith
+read_on_grows n (c ∷ cs) = omega (arith, read_on_grows (10 * n + (c - 48)) cs)
+
 -- a step of the reading of digits, and its end
 pub read_more : (n : ℕ) (ds : List ℕ) (i : ℕ) → i < length ds → read_on n (drop i ds) ≡ read_on (n * 10 + (get_or ds i 0 - 48)) (drop (i + 1) ds)
 read_more n ds i l =
     let e : 10 * n + (get_or ds i 0 - 48) ≡ n * 10 + (get_or ds i 0 - 48) = omega arith in
     at_drop_more (read_on n) ds i 0 l ∙ ap (λ m. read_on m (drop (i + 1) ds)) e
+
+-- where that step is past the limit, the whole is: a number only grows with more digits
+pub read_past : (n : ℕ) (ds : List ℕ) (i : ℕ) → i < length ds → read_on n (drop i ds) ≡ read_on 0 ds → 2 ^ 63 < n * 10 + (get_or ds i 0 - 48) → sized (read_on 0 ds) ≡ None
+read_past n ds i l sofar h =
+    let more = read_more n ds i l in
+    sized_past (read_on 0 ds) (omega (arith, read_on_grows (n * 10 + (get_or ds i 0 - 48)) (drop (i + 1) ds)))
 
 pub read_none : (n : ℕ) (ds : List ℕ) (i : ℕ) → length ds ≤ i → read_on n (drop i ds) ≡ n
 read_none n ds i h = rw (drop_all i ds h)
@@ -90,11 +101,6 @@ numeral_made ds a l z = grind (arith, nat_tests)
 
 pub numeral_parts : (ds : List ℕ) → is_numeral ds ≡ true → (all_digits ds ≡ true) × (0 < length ds) × (get_or ds 0 0 ≡ 48 → length ds ≡ 1)
 numeral_parts ds h = (grind (arith, nat_tests), grind (arith, nat_tests), grind (arith, nat_tests))
-
--- a number only grows with more digits
-pub read_on_grows : (n : ℕ) (ds : List ℕ) → n ≤ read_on n ds
-read_on_grows n [] = omega arith
-read_on_grows n (c ∷ cs) = omega (arith, read_on_grows (10 * n + (c - 48)) cs)
 
 -- a number without a sign is its decimal writing
 natural_decimal : (n : ℕ) → n < 2 ^ 64 → natural (decimal n) ≡ Some n

@@ -55,6 +55,7 @@ pub fn line_at(text: &[u8], from: usize, number: usize) -> Result<&[u8], Fault>
 }
 
 /// The line that a fault stands on, as part of the caller's text.
+// Line 0 stands for none: the empty answer is then one that lies in the text's own memory (`ref_ptr.0` names it).
 pub fn faulty_line<'a>(text: &'a [u8], fault: &Fault) -> &'a [u8]
     ensures line { result.now ≡ line_text (split 10 text.now) fault.now.place.line }
     ensures inside { fault.now.place.line ≡ 0 → result.ref_ptr.0 ≡ text.entry.ref_ptr.0 }
