@@ -79,13 +79,12 @@ fn close_all(rt: &HostRuntime, text: &[u8]) -> anyhow::Result<()> {
 fn main(rt: HostRuntime) -> anyhow::Result<()> {
     match read_input(&rt, PATH) {
         Ok(text) => close_all(&rt, text.as_slice()),
-        Err(Unread::Failed(error)) => {
-            eprintln!(rt; "closure: cannot read {PATH}: {error}")?;
-            Err(error.into())
-        }
-        Err(Unread::Long(refusal)) => {
-            println!(rt; "ERR\t{}", u8::from(refusal))?;
-            Err(anyhow!("the file is too long"))
+        Err(unread) => {
+            match unread {
+                Unread::Failed(error) => eprintln!(rt; "closure: cannot read {PATH}: {error}")?,
+                Unread::Long(refusal) => println!(rt; "ERR\t{}", u8::from(refusal))?,
+            }
+            Err(unread.into())
         }
     }
 }
